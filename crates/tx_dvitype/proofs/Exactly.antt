@@ -11,7 +11,7 @@ use Rattle.tx_dvitype.specs.declared.reader.Reader.{Reader}
 use Rattle.tx_dvi.specs.declared.font.FontDefinition.{FontDefinition}
 use Rattle.tx_dvi.specs.Dvi.{definition_bytes, two_bytes, units}
 use Rattle.tx_dvitype.specs.Files.{at_start, behind_preamble, dvi_file, is_last, is_mag, is_preamble, mag_in, may_begin_preamble, past_preamble, preamble_start, preamble_taken, rest_read, stands_at, taken, taken_by, with_byte}
-use Rattle.tx_dvitype.specs.Grammar.{AreBytes, FileText, IsDviFile, IsTextOf, PageText, bytes_of, elements, end_bytes, end_of, last_elements, last_pointer, nowhere, pages_elements, postamble_bytes, preamble_bytes}
+use Rattle.tx_dvitype.specs.Grammar.{AreBytes, ArePages, FileText, IsDviFile, IsTextOf, PageText, bytes_of, elements, end_bytes, end_of, last_elements, last_pointer, nowhere, pages_elements, postamble_bytes, preamble_bytes}
 use Rattle.tx_dvitype.proofs.Bytes.{byte-at}
 use Rattle.tx_dvitype.proofs.Commands.{left-bytes, right-bytes}
 use Rattle.tx_dvitype.proofs.Complete.{as-many, fonts_of, read-so}
@@ -136,7 +136,7 @@ module _ (whole : List ℕ) (passed : Passed may_begin_preamble whole) (is : is_
           comment = comment-fits;
           sizes = f.ten;
           some = (let some : 0 < length all = f.some in omega (arith, some, many));
-          are_pages = f.are;
+          are_pages = subst (λ (xs : List ReadPage). ArePages [] f.pages xs) (sym f.all_is) f.are;
         }
 
     pub whole-file : IsDviFile (whole ++ bytes) all

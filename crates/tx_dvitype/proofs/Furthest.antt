@@ -7,17 +7,20 @@ use Rattle.tx_dvitype.specs.declared.error.DviRule.TheVariants.{File, Preamble, 
 use Rattle.tx_dvitype.specs.declared.reader.ReadPage.{ReadPage}
 use Rattle.tx_dvitype.specs.declared.reader.Reader.{Reader}
 use Rattle.tx_dvitype.specs.Files.{Broken, is_done, stopped, going_on, taken, rest_read, at_start, dvi_file}
-use Rattle.tx_dvitype.specs.Furthest.{AreBytes, BeginsFile, IsFurthest}
+use Rattle.tx_dvitype.specs.Grammar.{AreBytes, BeginsFile, IsDviFile, IsFurthest, IsNextRule, IsRefusal, elements, rules_of}
 use Rattle.tx_dvi.specs.Meaning.{Reader as PageReader, carried_out}
 use Rattle.tx_dvitype.specs.Partial.{no_widths, is_near, kept_near, carried_near, gathered, may_begin, read_within, wanted}
 use Rattle.tx_dvitype.proofs.Bytes.{bytes-append, definitions-on}
+use Rattle.tx_dvitype.proofs.Complete.{Ended, file-ends}
 use Rattle.tx_dvitype.proofs.Ends.{CanEnd, end-can, level-can, one-before, page-can, post-can, preamble-can}
+use Rattle.tx_dvitype.proofs.Exactly.{complete, sound}
 use Rattle.tx_dvitype.proofs.Partials.{Progress, progress, whole_size}
 use Rattle.tx_dvitype.proofs.ReadEnd.{at_byte}
 use Rattle.tx_dvitype.proofs.ReadFront.{take-one}
 use Rattle.tx_dvitype.proofs.ReadPages.{byte-goes, next-reader}
 use Rattle.tx_dvitype.proofs.Refused.{Read, place_or, refused-so}
 use Rattle.tx_dvitype.proofs.Standing.{InPage, Next, Stands, StandsSomewhere, page-next, stands-at-start, stands-on}
+use Rattle.tx_dvitype.proofs.Steps.{Reaches, rule-there}
 
 -- the next byte of a command that is begun
 record Goes (p : PageReader) (byte : ℕ) : Type 0 where
@@ -184,17 +187,13 @@ bytes-take zero bytes are = tt
 bytes-take (suc n) [] are = tt
 bytes-take (suc n) (byte ∷ bytes) are = (are.0, bytes-take n bytes are.1)
 
+read-refused : {P : Type 0} (pages : List ReadPage) (broken : Broken) (read : Read) → read ≡ Ok pages → read ≡ Err broken → P
+read-refused pages broken read is err = absurd (true≢false (sym (ap is_read is) ∙ ap is_read err))
+
 pub furthest : (bytes : List ℕ) (broken : Broken) → AreBytes bytes → dvi_file bytes ≡ Err broken → IsFurthest bytes broken.place
 furthest bytes broken are refused = record {
   within = omega (arith, at, t.within);
-  begins = (
-    t.more,
-    record {
-      are = bytes-append (take broken.place bytes) t.more (bytes-take broken.place bytes are) t.are;
-      pages = t.pages;
-      read = (λ i. dvi_file (take (at i) bytes ++ t.more)) ∙ t.ends;
-    },
-  );
+  begins = (t.more, (t.pages, sound (take broken.place bytes ++ t.more) t.pages (bytes-append (take broken.place bytes) t.more (bytes-take broken.place bytes are) t.are) ((λ i. dvi_file (take (at i) bytes ++ t.more)) ∙ t.ends)));
   no_further = no-longer;
 }
   where
@@ -210,5 +209,55 @@ furthest bytes broken are refused = record {
         let long : length (take longer bytes) ≡ longer = length-take-le longer bytes fits in
         let front : take (suc broken.place) file ≡ take (suc broken.place) bytes
         = take-append-le (suc broken.place) (take longer bytes) begins.0 (omega (arith, past, long)) ∙ take-take (suc broken.place) longer bytes past in
-        let no : dvi_file file ≡ Err broken = refused-so bytes file broken refused (omega (arith, past, fits)) front in
-        true≢false (ap is_read (sym begins.1.read ∙ no))
+        read-refused begins.1.0 broken (dvi_file file) (complete file begins.1.0 begins.1.1) (refused-so bytes file broken refused (omega (arith, past, fits)) front)
+
+-- where the reader is at a refusal
+record Stopped (place : ℕ) (r : Reader) (bytes : List ℕ) (broken : Broken) : Type 0 where
+  left : ℕ
+  there : broken.place ≡ place + left
+  within : left ≤ length bytes
+  reader : Reader
+  reaches : Reaches place r (take left bytes) reader
+  rule : reader.element ≡ broken.rule
+
+abbrev rule_or : DviRule → Read → DviRule
+rule_or rule (Ok pages) = rule
+rule_or rule (Err broken) = broken.rule
+
+stopped-here : (place : ℕ) (r : Reader) (bytes : List ℕ) (broken : Broken) → ◌≡◌ {A = Read} (Err (stopped place r)) (Err broken) → Stopped place r bytes broken
+stopped-here place r bytes broken e =
+    let same : place ≡ broken.place = ap (place_or place) e in
+    record { left = 0; there = sym same ∙ sym (add-zero place); within = omega arith; reader = r; reaches = refl; rule = ap (rule_or r.element) e }
+
+stopped-at : (place : ℕ) (r : Reader) (bytes : List ℕ) (broken : Broken) → rest_read place r bytes ≡ Err broken → Stopped place r bytes broken
+stopped-at place r [] broken e = by (is_done r) e
+  where
+    by : (b : Bool) → cond {A = Read} b (Ok r.pages) (Err (stopped place r)) ≡ Err broken → Stopped place r [] broken
+    by true f = read-refused r.pages broken (Ok r.pages) refl f
+    by false f = stopped-here place r [] broken f
+stopped-at place r (byte ∷ bytes) broken e = by (λ next f. stopped-at (place + 1) next bytes broken f) (taken place r byte) refl e
+  where
+    by : ((next : Reader) → rest_read (place + 1) next bytes ≡ Err broken → Stopped (place + 1) next bytes broken)
+        → (o : Option Reader) → taken place r byte ≡ o → going_on place r o (λ next. rest_read (place + 1) next bytes) ≡ Err broken → Stopped place r (byte ∷ bytes) broken
+    by others None is f = stopped-here place r (byte ∷ bytes) broken f
+    by others (Some next) is f =
+        let later : Stopped (place + 1) next bytes broken = others next f in
+        let count : (place + 1) + later.left ≡ place + suc later.left = omega arith in
+        record { left = suc later.left; there = later.there ∙ count; within = omega (arith, later.within); reader = later.reader; reaches = (next, is, later.reaches); rule = later.rule }
+
+next-rule : (bytes : List ℕ) (broken : Broken) → dvi_file bytes ≡ Err broken → IsNextRule (take broken.place bytes) broken.rule
+next-rule bytes broken refused file pages next more is =
+    let t : Stopped 0 at_start bytes broken = stopped-at 0 at_start bytes broken refused in
+    let at : broken.place ≡ t.left = t.there ∙ zero-add t.left in
+    let s : Ended 0 at_start (take broken.place bytes ++ next ∷ more) (rules_of (elements file)) pages = file-ends (take broken.place bytes ++ next ∷ more) file pages is in
+    rule-there 0 at_start s.final t.reader (take broken.place bytes) more next (take broken.place bytes ++ next ∷ more) (rules_of (elements file)) s.steps refl
+    (subst (λ (n : ℕ). Reaches 0 at_start (take n bytes) t.reader) (sym at) t.reaches)
+    ∙ (λ i. Some (t.rule i))
+
+-- why bytes are refused
+pub refusal : (bytes : List ℕ) (broken : Broken) → AreBytes bytes → dvi_file bytes ≡ Err broken → IsRefusal bytes broken.place broken.rule
+refusal bytes broken are refused = record {
+  none = λ pages is. read-refused pages broken (dvi_file bytes) (complete bytes pages is) refused;
+  furthest = furthest bytes broken are refused;
+  next = next-rule bytes broken refused;
+}

@@ -23,3 +23,4 @@ mod Complete
 mod Decoding
 mod Sound
 mod Whole
+mod Exactly

@@ -27,11 +27,11 @@ use Rattle.tx_dvitype.proofs.ReadPages.{no-bytes, some-of}
 use Rattle.tx_dvitype.proofs.Sound.{FromCommands, FromPages, Goes, Passed, PostSo, at_it, expected-long, goes, no-byte, not-done, page-next, page-pages, passed-push, post-pages, post_text, sound-post, tail}
 
 -- in the midst of a page
-abbrev mid : Reader → PageReader → List ℕ → Reader
+abbrev pub mid : Reader → PageReader → List ℕ → Reader
 mid r q begun = record r { page = record q { begun = begun } }
 
 -- bytes of a command that aren't all of it
-abbrev PartOf : List ℕ → Type 0
+abbrev pub PartOf : List ℕ → Type 0
 PartOf [] = Unit {0}
 PartOf (opcode ∷ ops) = (more : ℕ) × (wanted (opcode ∷ ops) ≡ Some more) × (suc (length ops) ≤ more)
 
@@ -114,10 +114,10 @@ none-pushed [] e = refl
 none-pushed (last ∷ others) e = absurd (omega (arith, e))
 
 -- from a place in the pages on
-record Both (bytes : List ℕ) : Type 0 where
-  pages : (place start : ℕ) (r : Reader) (begun : List ℕ) (all : List ReadPage) → r.element ≡ element.Page → length r.pointer ≡ 4 → AreBytes r.page.fonts.known → AreDistinct r.page.fonts.known → place ≡ start + length begun
+pub record Both (bytes : List ℕ) : Type 0 where
+  pub pages : (place start : ℕ) (r : Reader) (begun : List ℕ) (all : List ReadPage) → r.element ≡ element.Page → length r.pointer ≡ 4 → AreBytes r.page.fonts.known → AreDistinct r.page.fonts.known → place ≡ start + length begun
       → Passed (λ done byte. may_begin_page (at_byte r done) byte) begun → rest_read place (at_byte r begun) bytes ≡ Ok all → FromPages start r.page.fonts.known r.mag r.pointer r.definitions r.pages (begun ++ bytes) all
-  commands : (place start : ℕ) (r : Reader) (q : PageReader) (begun : List ℕ) (all : List ReadPage) → r.element ≡ element.Command → length r.pointer ≡ 4 → place ≡ start + length begun → IsBetween q → PartOf begun → AreBytes begun
+  pub commands : (place start : ℕ) (r : Reader) (q : PageReader) (begun : List ℕ) (all : List ReadPage) → r.element ≡ element.Command → length r.pointer ≡ 4 → place ≡ start + length begun → IsBetween q → PartOf begun → AreBytes begun
       → rest_read place (mid r q begun) bytes ≡ Ok all → FromCommands start q r.mag r.pointer r.counts r.definitions r.pages (begun ++ bytes) all
 
 module _ (byte : ℕ) (bytes : List ℕ) (small : byte < 256) (later : Both bytes) where

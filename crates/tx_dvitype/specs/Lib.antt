@@ -3,5 +3,4 @@ pub mod Partial
 pub mod Files
 pub mod ReadPages
 pub mod ReadBack
-pub mod Furthest
 pub mod Grammar

@@ -4,7 +4,7 @@ ghost use Rattle.std.specs.Prelude.{◌≡◌, ◌+◌, ◌<◌, ◌≤◌, ◌^
 ghost use Rattle.tx_dvitype.specs.declared.reader.Reader.{Reader};
 ghost use Rattle.tx_dvi.specs.Dvi.{dvi, page_size, preamble};
 ghost use Rattle.tx_dvitype.specs.Files.{Broken, dvi_file};
-ghost use Rattle.tx_dvitype.specs.Furthest.{AreBytes, IsFurthest};
+ghost use Rattle.tx_dvitype.specs.Grammar.{AreBytes, IsRefusal};
 ghost use Rattle.tx_dvi.specs.Meaning.{Contents};
 ghost use Rattle.tx_dvi.specs.Page.{Page};
 ghost use Rattle.tx_dvitype.specs.ReadBack.{AreReadable, read_pages};
@@ -19,7 +19,7 @@ pub fn no_file_begins_with_what_is_refused()
 /// The place of a refusal is how many of the bytes begin a DVI file: others can be put behind these so that it is one, and behind
 /// more of them none can. This call does nothing: its contract is the theorem.
 pub fn a_file_begins_with_what_is_not_refused()
-    ensures { (bytes : List ℕ) (broken : Broken) → AreBytes bytes → dvi_file bytes ≡ Err broken → IsFurthest bytes broken.place }
+    ensures { (bytes : List ℕ) (broken : Broken) → AreBytes bytes → dvi_file bytes ≡ Err broken → IsRefusal bytes broken.place broken.rule }
 {}
 
 /// Commands that may stand on a page, none of which leads too far from its corner, mean something, and this is what is read of
