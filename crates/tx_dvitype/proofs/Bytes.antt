@@ -22,7 +22,7 @@ pub bytes-behind : (xs : List ℕ) → AreBytes xs → AreBytes (drop 1 xs)
 bytes-behind [] are = tt
 bytes-behind (x ∷ xs) are = are.1
 
-replicate-bytes : (n b : ℕ) → b < 256 → AreBytes (replicate n b)
+pub replicate-bytes : (n b : ℕ) → b < 256 → AreBytes (replicate n b)
 replicate-bytes zero b small = tt
 replicate-bytes (suc n) b small = (small, replicate-bytes n b small)
 
@@ -46,15 +46,15 @@ pub length-place : (n : ℕ) → length (unsigned_bytes n) ≡ 4
 unfolding unsigned_bytes
 length-place n = refl
 
-signed-bytes : (z : ℤ) → AreBytes (four_bytes z)
+pub signed-bytes : (z : ℤ) → AreBytes (four_bytes z)
 unfolding four_bytes
 signed-bytes z = high-bytes 4 (cast_unsigned w32 z)
 
-count-bytes : (n : ℕ) → AreBytes (two_bytes n)
+pub count-bytes : (n : ℕ) → AreBytes (two_bytes n)
 unfolding two_bytes
 count-bytes n = high-bytes 2 n
 
-units-bytes : (mag : ℕ) → AreBytes (units mag)
+pub units-bytes : (mag : ℕ) → AreBytes (units mag)
 units-bytes mag =
     bytes-append (four_bytes (pos 25400000)) (four_bytes (pos 473628672) ++ (four_bytes (pos mag) ++ [])) (signed-bytes (pos 25400000))
     (bytes-append (four_bytes (pos 473628672)) (four_bytes (pos mag) ++ []) (signed-bytes (pos 473628672)) (bytes-append (four_bytes (pos mag)) [] (signed-bytes (pos mag)) tt))
@@ -71,7 +71,7 @@ numbered-bytes number (d ∷ definitions) are = by (numbered-bytes number defini
     by others true = bytes-append d (all_bytes (numbered_as number definitions)) are.0 others
     by others false = others
 
-again-bytes : (bound : ℕ) (definitions : List (List ℕ)) → AreAllBytes definitions → AreBytes (again_below bound definitions)
+pub again-bytes : (bound : ℕ) (definitions : List (List ℕ)) → AreAllBytes definitions → AreBytes (again_below bound definitions)
 unfolding again_below
 again-bytes zero definitions are = tt
 again-bytes (suc number) definitions are =

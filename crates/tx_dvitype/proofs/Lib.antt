@@ -4,7 +4,6 @@ mod Moves
 mod ReadPages
 mod ReadFront
 mod ReadEnd
-mod ReadBack
 mod Refused
 mod Bytes
 mod Free
@@ -24,3 +23,5 @@ mod Decoding
 mod Sound
 mod Whole
 mod Exactly
+mod Meant
+mod Assembled

@@ -42,8 +42,8 @@ impl DviRule {
 /// Why no pages were read.
 #[derive(Clone, Copy, Debug, Error)]
 pub enum DviError {
-    /// The bytes are no DVI file: the first `place` of them begin one, no more of them do
-    /// (`a_file_begins_with_what_is_not_refused`), and what would have to come there is of this rule.
+    /// The bytes are no DVI file: the first `place` of them begin one, no more of them do, and what would have to come
+    /// there is of this rule.
     #[error("dvi refused at {place}, rule {}", .rule.number())]
     BadDvi { place: u64, rule: DviRule },
     /// There was no memory left.
