@@ -1,24 +1,19 @@
 -- An assembled file is one as the grammar says.
-use Rattle.std.proofs.Common.{◌≡◌, ℕ, zero, suc, ◌+◌, ◌-◌, ◌*◌, ◌/◌, ◌%◌, ◌^◌, ◌<◌, ◌≤◌, ◌==◌, Bool, true, false, cond, ℤ, pos, negsuc, List, [], ◌∷◌, ◌++◌, length, get_or, take, drop, map, replicate, refl, sym, ap, ◌∙◌, subst, arith, add-zero, length-append, append_assoc, w32, FitsSigned}
-use Rattle.std.specs.Prelude.{unsigned_abs, sum_by, codes, int_div, int_rem}
+use Rattle.std.proofs.Common.{◌≡◌, ℕ, zero, suc, ◌+◌, ◌-◌, ◌*◌, ◌%◌, ◌^◌, ◌<◌, ◌≤◌, ℤ, pos, negsuc, List, [], ◌∷◌, ◌++◌, length, get_or, take, drop, map, replicate, refl, sym, ap, ◌∙◌, subst, arith, add-zero, length-append, append_assoc, w32, FitsSigned}
+use Rattle.std.specs.Prelude.{unsigned_abs, sum_by, codes}
 use Rattle.std.specs.Fmt.{signed_decimal}
-use Rattle.std.specs.Int.{cast_signed, cast_unsigned}
-use Rattle.std.specs.List.{flat_map, enumerate_from, All, AllByRecursion}
+use Rattle.std.specs.List.{flat_map, enumerate_from, All}
 use Rattle.std.proofs.lemmas.Fmt.{IsAscii-signed, length_signed_le}
 use Rattle.std.proofs.lemmas.Int.{ints}
 use Rattle.std.proofs.lemmas.List.{append-nil, map-append, take_all}
 use Rattle.std.proofs.lemmas.List.Concat.{flat_map-append}
 use Rattle.std.proofs.lemmas.List.Sums.{sum_by-cons}
-use Rattle.byteorder.specs.Endian.{big_number}
 use Rattle.tx_dvitype.specs.declared.error.DviRule.{DviRule}
-use Rattle.tx_dvitype.specs.declared.reader.ReadPage.{ReadPage}
-use Rattle.tx_dvi.specs.declared.font.FontDefinition.{FontDefinition}
 use Rattle.tx_dvi.specs.declared.page.DateParameters.{DateParameters}
 use Rattle.tx_dvi.specs.declared.placed.Placed.{Placed}
-use Rattle.tx_dvi.specs.Dvi.{all_definitions, comment, day_and_time, definition_bytes, definitions_below, dvi, filler, fonts_of, four_bytes, greatest_height, greatest_nesting, greatest_width, page_bytes, page_size, place_of, pointer_of, post_bytes, post_post_bytes, preamble, sizes_bytes, two_bytes, two_digits, units, unsigned_bytes}
+use Rattle.tx_dvi.specs.Dvi.{comment, day_and_time, definition_bytes, definitions_below, dvi, filler, fonts_of, four_bytes, greatest_height, greatest_nesting, greatest_width, page_bytes, page_size, place_of, pointer_of, post_bytes, post_post_bytes, preamble, two_bytes, units, unsigned_bytes}
 use Rattle.tx_dvi.specs.Page.{Page}
-use Rattle.tx_dvitype.specs.Files.{again_below}
-use Rattle.tx_dvitype.specs.Grammar.{AreBytes, ArePages, Command, FntDef1, FileText, IsDviFile, IsTextOf, PageText, bytes_of, command_bytes, commands_bytes, defines, elements, end_bytes, end_of, fonts_in, last_elements, last_pointer, nowhere, numbers_in, page_long, pages_elements, pointer_to, postamble_bytes, preamble_bytes}
+use Rattle.tx_dvitype.specs.Grammar.{AreBytes, ArePages, Command, FntDef1, FileText, IsDviFile, PageText, bytes_of, command_bytes, commands_bytes, defines, elements, end_bytes, end_of, fonts_in, last_elements, last_pointer, nowhere, numbers_in, page_long, pages_elements, pointer_to, postamble_bytes}
 use Rattle.tx_dvitype.specs.ReadBack.{AreReadable, IsReadable, read_pages}
 use Rattle.tx_dvitype.proofs.Bytes.{AreAllBytes, again-bytes, bytes-append, count-bytes, place-bytes, replicate-bytes, signed-bytes, units-bytes}
 use Rattle.tx_dvitype.proofs.Commands.{left-bytes, right-bytes}
@@ -303,13 +298,16 @@ module _ (first : Page) (others : List Page) (placed : List (List Placed)) (leas
   sizes-ten = refl
 
   pub assembled : IsDviFile (dvi (first ∷ others)) (read_pages (first ∷ others) placed)
-  assembled = (file, record {
-    are_bytes = subst (λ (xs : List ℕ). AreBytes xs) (sym file-is) (subst (λ (xs : List ℕ). AreBytes xs) (λ i. preamble first ++ parts-are i) all-bytes);
-    written = file-is;
-    mag_least = least;
-    mag_most = most;
-    comment = comment-long first.date year;
-    sizes = sizes-ten;
-    some = (let many = t.many in omega (arith, many));
-    are_pages = t.are;
-  })
+  assembled = (
+    file,
+    record {
+      are_bytes = subst (λ (xs : List ℕ). AreBytes xs) (sym file-is) (subst (λ (xs : List ℕ). AreBytes xs) (λ i. preamble first ++ parts-are i) all-bytes);
+      written = file-is;
+      mag_least = least;
+      mag_most = most;
+      comment = comment-long first.date year;
+      sizes = sizes-ten;
+      some = (let many = t.many in omega (arith, many));
+      are_pages = t.are;
+    },
+  )

@@ -1,22 +1,21 @@
 -- Commands that may stand on a page are read, one after the other.
-use Rattle.std.proofs.Common.{◌≡◌, ℕ, zero, suc, ◌+◌, ◌-◌, ◌<◌, ◌≤◌, ◌==◌, ◌&&◌, not, nat_le, Bool, true, false, cond, ℤ, ◌+ℤ◌, List, [], ◌∷◌, ◌++◌, length, get_or, drop, map, Option, Some, None, refl, sym, ap, ◌∙◌, subst, arith, length-append, append_assoc}
-use Rattle.std.proofs.lemmas.Bool.{and_parts, le-leb, lt-leb, cond-true, cond-false}
+use Rattle.std.proofs.Common.{◌≡◌, ℕ, suc, ◌+◌, ◌<◌, ◌≤◌, ◌==◌, ◌&&◌, not, nat_le, true, false, cond, ◌+ℤ◌, List, [], ◌∷◌, ◌++◌, length, get_or, drop, map, Option, Some, None, refl, sym, ap, ◌∙◌, subst, arith, length-append, append_assoc}
+use Rattle.std.proofs.lemmas.Bool.{and_parts, le-leb, lt-leb}
 use Rattle.std.proofs.lemmas.List.{append-nil, map-append}
-use Rattle.std.specs.List.{AllByRecursion}
 use Rattle.tx_dvi.specs.declared.font.FontDefinition.{FontDefinition}
 use Rattle.tx_dvi.specs.declared.placed.Registers.{Registers}
-use Rattle.tx_dvi.specs.Dvi.{definition_bytes, IsDefinable}
-use Rattle.tx_dvi.specs.Meaning.{Reader as PageReader, carried_out, is_known, page_start, signed}
+use Rattle.tx_dvi.specs.Dvi.{definition_bytes}
+use Rattle.tx_dvi.specs.Meaning.{Reader as PageReader, carried_out, signed}
 use Rattle.tx_dvitype.specs.declared.error.DviRule.TheVariants as element
 use Rattle.tx_dvitype.specs.declared.reader.Reader.{Reader}
 use Rattle.tx_dvitype.specs.Files.{taken, with_definition}
-use Rattle.tx_dvitype.specs.Grammar.{Command, SetChar, Set1, SetRule, PutRule, Push, Pop, Right, W0, W, X0, X, Down, Y0, Y, Z0, Z, FntNum, Fnt1, Xxx, FntDef1, AreBytes, MayStand, IsNear, Lead, behind, command_bytes, commands_bytes, defines, fonts_in, lettered, taken_back}
+use Rattle.tx_dvitype.specs.Grammar.{Command, SetChar, Set1, SetRule, PutRule, Push, Pop, Right, W0, W, X0, X, Down, Y0, Y, Z0, Z, FntNum, Fnt1, Xxx, FntDef1, AreBytes, MayStand, Lead, behind, command_bytes, commands_bytes, defines, fonts_in, lettered, taken_back}
 use Rattle.tx_dvitype.specs.Partial.{no_widths, is_within, is_near, kept_near, carried_near, gathered, may_begin, read_within, wanted, past}
 use Rattle.tx_dvitype.proofs.Amounts.{near-from}
-use Rattle.tx_dvitype.proofs.Defining.{behind_def, definition-is, spelled-fnt_def1}
+use Rattle.tx_dvitype.proofs.Defining.{behind_def, spelled-fnt_def1}
 use Rattle.tx_dvitype.proofs.Numbers.{AreDistinct, distinct-push, room-left}
 use Rattle.tx_dvitype.proofs.ReadEnd.{at_byte}
-use Rattle.tx_dvitype.proofs.ReadPages.{byte-goes, next-reader}
+use Rattle.tx_dvitype.proofs.ReadPages.{byte-goes}
 use Rattle.tx_dvitype.proofs.Spelling.{Spelled, spelled-set_char, spelled-set1, spelled-set_rule, spelled-put_rule, spelled-push, spelled-pop, spelled-right, spelled-w0, spelled-w, spelled-x0, spelled-x, spelled-down, spelled-y0, spelled-y, spelled-z0, spelled-z, spelled-fnt_num, spelled-fnt1, spelled-xxx}
 use Rattle.tx_dvitype.proofs.Steps.{Within, gathers, gathered_to, two-steps}
 
@@ -41,9 +40,14 @@ pub spelled : (c : Command) (q : PageReader) → IsBetween q → AreBytes (comma
 spelled (SetChar code) q at are may near = (code, ([], spelled-set_char q code may.0 may.1))
 spelled (Set1 code) q at are may near = (128, (code ∷ [], spelled-set1 q code may))
 spelled (SetRule height width) q at are may near =
-    let there : is_within (q.now.h +ℤ signed (length width) width) ≡ true = (and_parts (is_within (q.now.h +ℤ signed (length width) width)) (is_within q.now.v) near).0 in
-    (132, (height ++ width, spelled-set_rule q height width may.0 may.1 (right-bytes height width are.1) (and_parts (is_within q.now.h) (is_within q.now.v) at.near).0
-    (subst (λ (n : ℕ). is_within (q.now.h +ℤ signed n width) ≡ true) may.1 there)))
+    let there : is_within (q.now.h +ℤ signed (length width) width) ≡ true = (and_parts (is_within (q.now.h +ℤ signed (length width) width)) (is_within q.now.v) near).0 in (
+      132,
+      (
+        height ++ width,
+        spelled-set_rule q height width may.0 may.1 (right-bytes height width are.1) (and_parts (is_within q.now.h) (is_within q.now.v) at.near).0
+            (subst (λ (n : ℕ). is_within (q.now.h +ℤ signed n width) ≡ true) may.1 there),
+      ),
+    )
 spelled (PutRule height width) q at are may near = (137, (height ++ width, spelled-put_rule q height width may.0 may.1))
 spelled Push q at are may near = (141, ([], spelled-push q))
 spelled Pop q at are may near = (142, ([], spelled-pop q may))

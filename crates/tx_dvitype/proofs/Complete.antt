@@ -1,8 +1,8 @@
 -- What the grammar says to be a file is read so.
-use Rattle.std.proofs.Common.{◌≡◌, ℕ, zero, suc, ◌+◌, ◌-◌, ◌*◌, ◌%◌, ◌^◌, ◌<◌, ◌≤◌, ◌==◌, ◌&&◌, nat_lt, Bool, true, false, cond, ℤ, pos, List, [], ◌∷◌, ◌++◌, length, map, replicate, Option, Some, None, Result, Ok, Err, refl, sym, ap, ◌∙◌, subst, arith, length-append, append_assoc}
+use Rattle.std.proofs.Common.{◌≡◌, ℕ, suc, ◌+◌, ◌-◌, ◌%◌, ◌^◌, ◌<◌, true, cond, ℤ, pos, List, [], ◌∷◌, ◌++◌, length, map, replicate, Some, Result, Ok, Err, refl, sym, ap, ◌∙◌, subst, arith, length-append, append_assoc}
 use Rattle.std.specs.List.{flat_map}
-use Rattle.std.proofs.lemmas.Bool.{and_from, eq-eqb, lt-ltb}
-use Rattle.std.proofs.lemmas.List.{append-nil, length_push, map-append}
+use Rattle.std.proofs.lemmas.Bool.{eq-eqb}
+use Rattle.std.proofs.lemmas.List.{append-nil, map-append}
 use Rattle.tx_dvitype.specs.declared.error.DviRule.{DviRule}
 use Rattle.tx_dvitype.specs.declared.error.DviRule.TheVariants as element
 use Rattle.tx_dvitype.specs.declared.reader.ReadPage.{ReadPage}
@@ -10,9 +10,9 @@ use Rattle.tx_dvitype.specs.declared.reader.Reader.{Reader}
 use Rattle.tx_dvi.specs.declared.font.FontDefinition.{FontDefinition}
 use Rattle.tx_dvi.specs.Dvi.{definition_bytes, definitions_below, filler, four_bytes, two_bytes, units, unsigned_bytes}
 use Rattle.tx_dvi.specs.Meaning.{Reader as PageReader, page_start}
-use Rattle.tx_dvitype.specs.Files.{Broken, again_below, at_post, at_start, behind_bop, behind_eop, behind_postamble, counts_in, dvi_file, ended, ending, is_done, place_bytes, postamble, rest_read, stopped, taken}
-use Rattle.tx_dvitype.specs.Grammar.{AreBytes, ArePages, FileText, IsPage, IsTextOf, Lead, PageText, bytes_of, commands_bytes, elements, end_bytes, end_of, fonts_in, last_elements, last_pointer, nowhere, numbers_in, page_elements, page_long, pages_elements, pointer_to, postamble_bytes, preamble_bytes, rules_of}
-use Rattle.tx_dvitype.proofs.Commands.{AreRead, IsBetween, behind_commands, commands-within, left-bytes, right-bytes}
+use Rattle.tx_dvitype.specs.Files.{Broken, again_below, at_post, at_start, behind_postamble, dvi_file, is_done, place_bytes, postamble, stopped}
+use Rattle.tx_dvitype.specs.Grammar.{AreBytes, ArePages, FileText, IsPage, IsTextOf, PageText, bytes_of, commands_bytes, elements, end_bytes, end_of, fonts_in, last_elements, last_pointer, nowhere, numbers_in, page_long, pages_elements, pointer_to, postamble_bytes, preamble_bytes, rules_of}
+use Rattle.tx_dvitype.proofs.Commands.{AreRead, behind_commands, commands-within, left-bytes, right-bytes}
 use Rattle.tx_dvitype.proofs.Elements.{bop-within, counts-are, end-within, post-within, preamble-within}
 use Rattle.tx_dvitype.proofs.Ends.{post-begins}
 use Rattle.tx_dvitype.proofs.Numbers.{AreDistinct}

@@ -1,13 +1,12 @@
 -- Bytes that the reader of a page takes for a command are one that may stand where it is.
-use Rattle.std.proofs.Common.{◌≡◌, ℕ, zero, suc, ◌+◌, ◌*◌, ◌-◌, ◌/◌, ◌%◌, ◌^◌, ◌<◌, ◌≤◌, ◌==◌, ◌&&◌, ◌||◌, ◌⊎◌, not, nat_le, nat_lt, Bool, true, false, cond, ℤ, ◌+ℤ◌, List, [], ◌∷◌, ◌++◌, length, get_or, take, drop, map, Option, Some, None, is_some, refl, sym, ap, ◌∙◌, subst, inl, inr, arith, length-append}
-use Rattle.std.proofs.lemmas.Bool.{and_from, and_parts, cases_eq, cases_lt, eq-eqb, eqb-true, false≢true, le-leb, le-ltb, leb-true, leb-false, lt-leb, lt-ltb, ltb-false, ltb-true, ne_eqb, not-true, or_cases, cond-true, cond-false, cond_both}
-use Rattle.std.proofs.lemmas.List.{append-nil, get_or_append_left, length-drop, length-take-le, length_push, take-append-drop}
+use Rattle.std.proofs.Common.{◌≡◌, ℕ, zero, suc, ◌+◌, ◌-◌, ◌/◌, ◌%◌, ◌^◌, ◌<◌, ◌≤◌, ◌==◌, ◌&&◌, ◌||◌, not, nat_le, nat_lt, Bool, true, false, cond, List, [], ◌∷◌, ◌++◌, length, get_or, take, drop, map, Option, Some, None, is_some, refl, sym, ap, ◌∙◌, subst, inl, inr, arith}
+use Rattle.std.proofs.lemmas.Bool.{and_parts, cases_eq, cases_lt, eqb-true, false≢true, le-leb, le-ltb, leb-true, lt-leb, lt-ltb, ltb-true, ne_eqb, not-true, or_cases, cond-true, cond-false, cond_both}
+use Rattle.std.proofs.lemmas.List.{get_or_append_left, length-drop, length-take-le, length_push, take-append-drop}
 use Rattle.std.proofs.lemmas.Option.{none-some}
 use Rattle.byteorder.specs.Endian.{big_number}
 use Rattle.tx_dvi.specs.declared.font.FontDefinition.{FontDefinition}
-use Rattle.tx_dvi.specs.declared.placed.Registers.{Registers}
 use Rattle.tx_dvi.specs.Dvi.{definition_bytes, unsigned_bytes, IsDefinable}
-use Rattle.tx_dvi.specs.Meaning.{Reader as PageReader, carried_out, definition_in, definition_operands, is_font_number, is_known, is_movement, movement_operands, moved, operands, signed, special_operands, with_registers}
+use Rattle.tx_dvi.specs.Meaning.{Reader as PageReader, carried_out, definition_operands, is_font_number, is_known, is_movement, movement_operands, moved, operands, signed, special_operands, with_registers}
 use Rattle.tx_dvitype.specs.Files.{with_definition}
 use Rattle.tx_dvitype.specs.Grammar.{Command, SetChar, Set1, SetRule, PutRule, Push, Pop, Right, W0, W, X0, X, Down, Y0, Y, Z0, Z, FntNum, Fnt1, Xxx, FntDef1, AreBytes, HasFont, MayStand, behind, command_bytes, defines}
 use Rattle.tx_dvitype.specs.Partial.{no_widths, may_begin, may_choose, may_define, may_go, may_pass, wanted}
@@ -288,8 +287,21 @@ module _ (q : PageReader) (at : IsBetween q) (opcode : ℕ) (ops : List ℕ) (ar
       no_movement = (λ i. nat_le 143 opcode && lt-leb opcode 170 (omega (arith, least)) i) ∙ false-right (nat_le 143 opcode)
 
       wants : operands opcode (opcode ∷ ops) ≡ Some (special_operands (opcode - 238) (opcode ∷ ops))
-      wants = rw (no_letter, no_number, ne_eqb opcode 128 (λ e. omega (arith, least, e)), ne_eqb opcode 235 (λ e. omega (arith, least, e)), ne_eqb opcode 243 (λ e. omega (arith, most, e)), ne_eqb opcode 132 (λ e. omega (arith, least, e)),
-          ne_eqb opcode 137 (λ e. omega (arith, least, e)), ne_eqb opcode 138 (λ e. omega (arith, least, e)), ne_eqb opcode 141 (λ e. omega (arith, least, e)), ne_eqb opcode 142 (λ e. omega (arith, least, e)), no_movement, le-ltb opcode 239 least, le-leb opcode 242 most) refl
+      wants = rw (
+        no_letter,
+        no_number,
+        ne_eqb opcode 128 (λ e. omega (arith, least, e)),
+        ne_eqb opcode 235 (λ e. omega (arith, least, e)),
+        ne_eqb opcode 243 (λ e. omega (arith, most, e)),
+        ne_eqb opcode 132 (λ e. omega (arith, least, e)),
+        ne_eqb opcode 137 (λ e. omega (arith, least, e)),
+        ne_eqb opcode 138 (λ e. omega (arith, least, e)),
+        ne_eqb opcode 141 (λ e. omega (arith, least, e)),
+        ne_eqb opcode 142 (λ e. omega (arith, least, e)),
+        no_movement,
+        le-ltb opcode 239 least,
+        le-leb opcode 242 most,
+      ) refl
 
       is : length ops ≡ special_operands (opcode - 238) (opcode ∷ ops)
       is = counts (special_operands (opcode - 238) (opcode ∷ ops)) wants
@@ -373,8 +385,16 @@ module _ (q : PageReader) (at : IsBetween q) (opcode : ℕ) (ops : List ℕ) (ar
         let n : movement_operands opcode ≡ opcode - 161 = rw (lt-leb opcode 146 (omega (arith, least)), lt-leb opcode 151 (omega (arith, least)), lt-leb opcode 156 (omega (arith, least)), lt-leb opcode 160 (omega (arith, least)), le-leb opcode 165 most) refl in
         let same : 161 + length ops ≡ opcode = omega (arith, least, n, size-is) in
         moves-by (Y ops) (λ i. same i ∷ ops) (omega (arith, least, n, size-is), omega (arith, most, n, size-is)) refl
-        (rw (lt-leb opcode 146 (omega (arith, least)), ne_eqb opcode 147 (λ e. omega (arith, least, e)), lt-leb opcode 151 (omega (arith, least)), ne_eqb opcode 152 (λ e. omega (arith, least, e)), lt-leb opcode 156 (omega (arith, least)),
-        lt-leb opcode 160 (omega (arith, least)), ne_eqb opcode 161 (λ e. omega (arith, least, e)), le-leb opcode 165 most) refl)
+        (rw (
+          lt-leb opcode 146 (omega (arith, least)),
+          ne_eqb opcode 147 (λ e. omega (arith, least, e)),
+          lt-leb opcode 151 (omega (arith, least)),
+          ne_eqb opcode 152 (λ e. omega (arith, least, e)),
+          lt-leb opcode 156 (omega (arith, least)),
+          lt-leb opcode 160 (omega (arith, least)),
+          ne_eqb opcode 161 (λ e. omega (arith, least, e)),
+          le-leb opcode 165 most,
+        ) refl)
 
     z0 : opcode ≡ 166 → D
     z0 is =

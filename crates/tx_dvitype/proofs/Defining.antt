@@ -1,15 +1,14 @@
 -- What the reader of a page does at the bytes of the definition of a font.
-use Rattle.std.proofs.Common.{◌≡◌, ℕ, zero, suc, ◌+◌, ◌-◌, ◌^◌, ◌<◌, ◌≤◌, ◌==◌, ◌&&◌, ◌||◌, not, nat_le, nat_lt, Bool, true, false, cond, List, [], ◌∷◌, ◌++◌, length, get_or, drop, map, Option, Some, None, refl, sym, ap, ◌∙◌, subst, inl, inr, arith, length-append}
+use Rattle.std.proofs.Common.{◌≡◌, ℕ, zero, suc, ◌+◌, ◌<◌, ◌≤◌, ◌==◌, ◌&&◌, ◌||◌, not, nat_le, nat_lt, true, false, cond, List, [], ◌∷◌, ◌++◌, length, get_or, drop, Some, None, refl, sym, ap, ◌∙◌, inl, inr, arith}
 use Rattle.std.proofs.lemmas.Bool.{and_from, cases_lt, eq-eqb, le-leb, le-ltb, lt-leb, lt-ltb, or_left, or_right, cond-true, cond-false, not_from_false}
 use Rattle.std.proofs.lemmas.List.{append-nil, get_or_append_left}
-use Rattle.byteorder.specs.Endian.{big_number}
 use Rattle.byteorder.specs.Numbers.{big_number-reads_back}
 use Rattle.tx_dvi.specs.declared.font.FontDefinition.{FontDefinition}
 use Rattle.tx_dvi.specs.Dvi.{definition_bytes, unsigned_bytes, IsDefinable}
-use Rattle.tx_dvi.specs.Meaning.{Reader as PageReader, carried_out, define, defining, definition_in, definition_operands, is_known, with_fonts}
+use Rattle.tx_dvi.specs.Meaning.{Reader as PageReader, carried_out, define, defining, definition_operands, is_known, with_fonts}
 use Rattle.tx_dvitype.specs.Files.{with_definition}
-use Rattle.tx_dvitype.specs.Grammar.{Command, FntDef1, behind}
-use Rattle.tx_dvitype.specs.Partial.{no_widths, may_begin, wanted, is_whole, past}
+use Rattle.tx_dvitype.specs.Grammar.{FntDef1, behind}
+use Rattle.tx_dvitype.specs.Partial.{no_widths, may_begin, wanted, past}
 use Rattle.tx_dvitype.proofs.Spelling.{Spelled, shorter}
 
 -- the bytes behind fnt_def1: the number, the checksum and two sizes, no area, and the name

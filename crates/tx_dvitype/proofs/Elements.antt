@@ -1,15 +1,13 @@
 -- The elements of a file are read, one after the other.
-use Rattle.std.proofs.Common.{◌≡◌, ℕ, zero, suc, ◌+◌, ◌-◌, ◌*◌, ◌/◌, ◌%◌, ◌^◌, ◌<◌, ◌≤◌, ◌==◌, ◌&&◌, ◌||◌, ◌⊎◌, nat_le, nat_lt, Bool, true, false, cond, ℤ, pos, List, [], ◌∷◌, ◌++◌, length, get_or, drop, take, map, replicate, Option, Some, None, Ok, refl, sym, ap, ◌∙◌, subst, inl, inr, arith, length-append, append_assoc, w32}
+use Rattle.std.proofs.Common.{◌≡◌, ℕ, zero, suc, ◌+◌, ◌-◌, ◌*◌, ◌/◌, ◌%◌, ◌^◌, ◌<◌, ◌≤◌, ◌==◌, ◌&&◌, ◌||◌, ◌⊎◌, nat_le, nat_lt, Bool, true, false, cond, ℤ, List, [], ◌∷◌, ◌++◌, length, get_or, drop, Some, refl, sym, ap, ◌∙◌, subst, inl, inr, arith, length-append, append_assoc, w32}
 use Rattle.std.proofs.lemmas.Bool.{and_from, and_left, and_right, cases_eq, cases_lt, eq-eqb, le-leb, le-ltb, lt-leb, lt-ltb, ne_eqb, or_left, or_right}
-use Rattle.std.proofs.lemmas.List.{append-nil, drop-append-le, drop-drop, get_or_append_left, get_or-append_right, get_or_at, length-drop, length_push}
+use Rattle.std.proofs.lemmas.List.{drop-append-le, drop-drop, get_or_append_left, get_or-append_right, get_or_at, length-drop, length_push}
 use Rattle.std.specs.Int.{cast_signed}
 use Rattle.byteorder.specs.Endian.{big_number}
-use Rattle.tx_dvitype.specs.declared.error.DviRule.{DviRule}
 use Rattle.tx_dvitype.specs.declared.error.DviRule.TheVariants as element
 use Rattle.tx_dvitype.specs.declared.reader.Reader.{Reader}
-use Rattle.tx_dvi.specs.Dvi.{four_bytes, units}
-use Rattle.tx_dvi.specs.Meaning.{Reader as PageReader, page_start}
-use Rattle.tx_dvitype.specs.Files.{stands_at, preamble_start, is_mag, may_begin_preamble, is_preamble, behind_preamble, past_preamble, may_begin_page, may_begin_post, place_bytes, count_at, counts_in, behind_bop, past_bop, at_post, postamble, may_stand, behind_postamble, past_postamble, with_byte, taken, at_start}
+use Rattle.tx_dvi.specs.Dvi.{four_bytes}
+use Rattle.tx_dvitype.specs.Files.{stands_at, preamble_start, is_mag, may_begin_preamble, is_preamble, behind_preamble, past_preamble, may_begin_page, may_begin_post, counts_in, behind_bop, past_bop, may_stand, behind_postamble, past_postamble, taken, at_start}
 use Rattle.tx_dvitype.specs.Grammar.{FileText, numbers_in, preamble_bytes}
 use Rattle.tx_dvitype.proofs.Ends.{end-takes, post-takes, bop-takes, preamble-takes}
 use Rattle.tx_dvitype.proofs.ReadEnd.{at_byte}

@@ -1,6 +1,6 @@
 -- Exactly the files of the grammar are read, each with its pages.
-use Rattle.std.proofs.Common.{◌≡◌, ℕ, zero, suc, ◌+◌, ◌-◌, ◌*◌, ◌/◌, ◌%◌, ◌^◌, ◌<◌, ◌≤◌, ◌==◌, ◌&&◌, nat_le, nat_lt, Bool, true, false, cond, List, [], ◌∷◌, ◌++◌, length, get_or, take, drop, map, Option, Some, None, Result, Ok, Err, refl, sym, ap, ◌∙◌, subst, arith, zero-add, append_assoc}
-use Rattle.std.proofs.lemmas.Bool.{and_parts, eqb-true, eq-eqb, leb-true, le-ltb, lt-ltb, ltb-true, ne_eqb}
+use Rattle.std.proofs.Common.{◌≡◌, ℕ, ◌+◌, ◌*◌, ◌/◌, ◌%◌, ◌^◌, ◌<◌, ◌≤◌, ◌==◌, nat_le, nat_lt, Bool, true, false, cond, List, [], ◌∷◌, ◌++◌, length, get_or, take, drop, map, Some, Ok, refl, sym, ap, ◌∙◌, subst, arith, append_assoc}
+use Rattle.std.proofs.lemmas.Bool.{and_parts, eqb-true, eq-eqb, leb-true, le-ltb, lt-ltb, ne_eqb}
 use Rattle.std.proofs.lemmas.List.{append-nil, drop_more, ext_get_or, get_or-take, length-drop, length-take-le, length_push, take-append-drop}
 use Rattle.std.proofs.lemmas.List.Concat.{flat_map-append}
 use Rattle.std.proofs.lemmas.Option.{cond_some}
@@ -10,8 +10,8 @@ use Rattle.tx_dvitype.specs.declared.reader.ReadPage.{ReadPage}
 use Rattle.tx_dvitype.specs.declared.reader.Reader.{Reader}
 use Rattle.tx_dvi.specs.declared.font.FontDefinition.{FontDefinition}
 use Rattle.tx_dvi.specs.Dvi.{definition_bytes, two_bytes, units}
-use Rattle.tx_dvitype.specs.Files.{at_start, behind_preamble, dvi_file, is_last, is_mag, is_preamble, mag_in, may_begin_preamble, past_preamble, preamble_start, preamble_taken, rest_read, stands_at, taken, taken_by, with_byte}
-use Rattle.tx_dvitype.specs.Grammar.{AreBytes, ArePages, FileText, IsDviFile, IsTextOf, PageText, bytes_of, elements, end_bytes, end_of, last_elements, last_pointer, nowhere, pages_elements, postamble_bytes, preamble_bytes}
+use Rattle.tx_dvitype.specs.Files.{at_start, behind_preamble, dvi_file, is_mag, is_preamble, mag_in, may_begin_preamble, past_preamble, preamble_start, preamble_taken, rest_read, stands_at, taken, taken_by, with_byte}
+use Rattle.tx_dvitype.specs.Grammar.{AreBytes, ArePages, FileText, IsDviFile, IsTextOf, PageText, bytes_of, end_bytes, end_of, last_elements, last_pointer, nowhere, pages_elements, postamble_bytes, preamble_bytes}
 use Rattle.tx_dvitype.proofs.Bytes.{byte-at}
 use Rattle.tx_dvitype.proofs.Commands.{left-bytes, right-bytes}
 use Rattle.tx_dvitype.proofs.Complete.{as-many, fonts_of, read-so}

@@ -7,7 +7,7 @@ use Rattle.tx_dvitype.specs.declared.error.DviRule.TheVariants.{File, Preamble, 
 use Rattle.tx_dvitype.specs.declared.reader.ReadPage.{ReadPage}
 use Rattle.tx_dvitype.specs.declared.reader.Reader.{Reader}
 use Rattle.tx_dvitype.specs.Files.{Broken, is_done, stopped, going_on, taken, rest_read, at_start, dvi_file}
-use Rattle.tx_dvitype.specs.Grammar.{AreBytes, BeginsFile, IsDviFile, IsFurthest, IsNextRule, IsRefusal, elements, rules_of}
+use Rattle.tx_dvitype.specs.Grammar.{AreBytes, BeginsFile, IsFurthest, IsNextRule, IsRefusal, elements, rules_of}
 use Rattle.tx_dvi.specs.Meaning.{Reader as PageReader, carried_out}
 use Rattle.tx_dvitype.specs.Partial.{no_widths, is_near, kept_near, carried_near, gathered, may_begin, read_within, wanted}
 use Rattle.tx_dvitype.proofs.Bytes.{bytes-append, definitions-on}

@@ -1,5 +1,5 @@
 -- The commands of a page mean what is met on it.
-use Rattle.std.proofs.Common.{◌≡◌, ℕ, zero, suc, ◌+◌, ◌<◌, ◌≤◌, ◌==◌, nat_le, Bool, true, false, cond, List, [], ◌∷◌, ◌++◌, length, get_or, drop, map, fold, Option, Some, None, refl, sym, ap, ◌∙◌, subst, arith, append_assoc}
+use Rattle.std.proofs.Common.{◌≡◌, ℕ, suc, ◌+◌, ◌≤◌, ◌==◌, nat_le, true, false, cond, List, [], ◌∷◌, ◌++◌, length, get_or, map, fold, Option, Some, None, refl, sym, ap, ◌∙◌, subst, arith, append_assoc}
 use Rattle.std.proofs.lemmas.Bool.{le-leb, lt-leb}
 use Rattle.std.proofs.lemmas.List.{append-nil, map-append}
 use Rattle.std.proofs.lemmas.List.Sums.{fold-append}
@@ -8,7 +8,7 @@ use Rattle.tx_dvitype.specs.declared.reader.ReadPage.{ReadPage}
 use Rattle.tx_dvi.specs.declared.font.FontDefinition.{FontDefinition}
 use Rattle.tx_dvi.specs.declared.placed.Registers.{Registers}
 use Rattle.tx_dvi.specs.Meaning.{Contents, Reader as PageReader, all_met, carried_out, meaning, operands, page_start, read, when_whole}
-use Rattle.tx_dvitype.specs.Grammar.{Command, SetChar, Set1, SetRule, PutRule, Push, Pop, Right, W0, W, X0, X, Down, Y0, Y, Z0, Z, FntNum, Fnt1, Xxx, FntDef1, AreBytes, ArePages, FileText, IsPage, IsTextOf, Lead, PageText, behind, bytes_of, command_bytes, commands_bytes, defines, elements, end_of, fonts_in, last_elements, last_pointer, lettered, nowhere, page_long, pages_elements, pointer_to, preamble_bytes, taken_back}
+use Rattle.tx_dvitype.specs.Grammar.{Command, SetChar, Set1, SetRule, PutRule, Push, Pop, Right, W0, W, X0, X, Down, Y0, Y, Z0, Z, FntNum, Fnt1, Xxx, FntDef1, AreBytes, ArePages, FileText, IsPage, IsTextOf, Lead, PageText, behind, bytes_of, command_bytes, commands_bytes, defines, end_of, fonts_in, last_elements, last_pointer, lettered, nowhere, page_long, pages_elements, pointer_to, preamble_bytes, taken_back}
 use Rattle.tx_dvitype.specs.Partial.{no_widths, is_near, wanted}
 use Rattle.tx_dvitype.specs.ReadBack.{AreMeant}
 use Rattle.tx_dvitype.proofs.Amounts.{near-from}
@@ -135,10 +135,13 @@ pages-meant known place pointer (page ∷ pages) (b ∷ brought) rest known_byte
     let t : IsReadTo (page_start known) (commands_bytes page.commands) is.end = commands-read page.commands (page_start known) is.end at body_bytes is.lead in
     let fonts : FontsAre (page_start known) is.end (fonts_in page.commands) = commands-fonts page.commands (page_start known) is.end is.lead in
     let same : is.end.fonts.known ≡ known ++ numbers_of is.end.fonts.defined = fonts.known ∙ (λ i. known ++ numbers_of (sym fonts.defined i)) in
-    let placed : b.placed ≡ is.end.met = ap (λ (r : ReadPage). r.placed) is.brings in
-    (record { placed = is.end.met; fonts = is.end.fonts.defined }, page-meant known page b at body_bytes is, placed,
-    subst (λ (k : List ℕ). AreMeant k pages brought) same
-    (pages-meant is.end.fonts.known (place + page_long page) (pointer_to place) pages brought rest t.between.known t.between.distinct (right-bytes (commands_bytes page.commands ++ 140 ∷ []) later behind_bytes) are.1))
+    let placed : b.placed ≡ is.end.met = ap (λ (r : ReadPage). r.placed) is.brings in (
+      record { placed = is.end.met; fonts = is.end.fonts.defined },
+      page-meant known page b at body_bytes is,
+      placed,
+      subst (λ (k : List ℕ). AreMeant k pages brought) same
+          (pages-meant is.end.fonts.known (place + page_long page) (pointer_to place) pages brought rest t.between.known t.between.distinct (right-bytes (commands_bytes page.commands ++ 140 ∷ []) later behind_bytes) are.1),
+    )
 
 pub file-meant : (bytes : List ℕ) (file : FileText) (pages : List ReadPage) → IsTextOf bytes file pages → AreMeant [] file.pages pages
 file-meant bytes file pages is =

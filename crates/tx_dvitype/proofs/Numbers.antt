@@ -1,5 +1,5 @@
 -- Fewer than 256 fonts are defined where a byte is the number of none, since each number is taken once.
-use Rattle.std.proofs.Common.{◌≡◌, ℕ, zero, suc, ◌+◌, ◌<◌, ◌≤◌, ◌==◌, ◌||◌, Bool, true, false, cond, List, [], ◌∷◌, ◌++◌, length, refl, sym, ap, ◌∙◌, subst, arith}
+use Rattle.std.proofs.Common.{◌≡◌, ℕ, zero, suc, ◌<◌, ◌≤◌, ◌==◌, Bool, true, false, cond, List, [], ◌∷◌, ◌++◌, length, refl, sym, subst, arith}
 use Rattle.std.proofs.lemmas.Bool.{eqb-false, eqb-true, ne_eqb, or_from, or_parts}
 use Rattle.std.specs.List.{AllByRecursion}
 use Rattle.tx_dvi.specs.Meaning.{is_known}

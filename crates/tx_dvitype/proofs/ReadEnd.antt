@@ -1,15 +1,10 @@
 -- What stands behind the pages of an assembled file, as it is read.
-use Rattle.std.proofs.Common.{◌≡◌, ℕ, zero, suc, ◌+◌, ◌-◌, ◌<◌, ◌==◌, ◌&&◌, ◌||◌, nat_lt, nat_le, Bool, true, false, cond, List, [], ◌∷◌, ◌++◌, length, get_or, map, Option, Some, None, Result, Ok, Err, refl, sym, ap, ◌∙◌, subst, arith, length-append, append_assoc}
+use Rattle.std.proofs.Common.{◌≡◌, ℕ, zero, suc, ◌==◌, Bool, true, false, cond, List, [], ◌∷◌, ◌++◌, map, refl, ap}
 use Rattle.std.specs.List.{flat_map}
-use Rattle.std.proofs.lemmas.Bool.{lt-ltb, eq-eqb, ne_eqb}
-use Rattle.tx_dvitype.specs.declared.error.DviRule.{DviRule}
-use Rattle.tx_dvitype.specs.declared.error.DviRule.TheVariants as element
 use Rattle.tx_dvi.specs.declared.font.FontDefinition.{FontDefinition}
-use Rattle.tx_dvitype.specs.declared.reader.ReadPage.{ReadPage}
 use Rattle.tx_dvitype.specs.declared.reader.Reader.{Reader}
 use Rattle.tx_dvi.specs.Dvi.{definition_bytes, definitions_below, numbered}
-use Rattle.tx_dvitype.specs.Files.{Broken, stands_at, numbered_as, all_bytes, again_below, may_stand, behind_postamble, postamble_taken, end_taken, taken_by, taken, is_last, stopped, rest_read}
-use Rattle.tx_dvitype.proofs.ReadFront.{take-one}
+use Rattle.tx_dvitype.specs.Files.{numbered_as, all_bytes, again_below}
 
 -- a reader in the midst of an element
 abbrev pub at_byte : Reader → List ℕ → Reader

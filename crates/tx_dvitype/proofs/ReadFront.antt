@@ -1,16 +1,15 @@
 -- The preamble of an assembled file, and the bop of a page, as they are read.
-use Rattle.std.proofs.Common.{◌≡◌, ℕ, zero, suc, ◌+◌, ◌-◌, ◌*◌, ◌/◌, ◌%◌, ◌^◌, ◌<◌, ◌≤◌, ◌==◌, ◌&&◌, nat_lt, nat_le, Bool, true, false, cond, ℤ, pos, negsuc, List, [], ◌∷◌, ◌++◌, length, get_or, drop, Option, Some, None, refl, sym, ap, ◌∙◌, arith, add-zero, length-append, w32, FitsSigned, to_z-of_z}
-use Rattle.std.proofs.lemmas.Bool.{lt-ltb, le-ltb, le-leb, eq-eqb, ne_eqb}
+use Rattle.std.proofs.Common.{◌≡◌, ℕ, ◌+◌, ◌*◌, ◌^◌, ◌<◌, ◌≤◌, ◌==◌, ◌&&◌, nat_lt, nat_le, Bool, true, false, cond, ℤ, pos, negsuc, List, [], ◌∷◌, ◌++◌, length, get_or, Some, ap, ◌∙◌, arith, w32, FitsSigned, to_z-of_z}
+use Rattle.std.proofs.lemmas.Bool.{lt-ltb, le-ltb, eq-eqb, ne_eqb}
 use Rattle.std.proofs.lemmas.Int.{ints}
-use Rattle.std.specs.Fmt.{signed_decimal}
 use Rattle.std.specs.Int.{cast_signed, cast_unsigned}
 use Rattle.byteorder.specs.Endian.{big_number}
 use Rattle.byteorder.specs.Numbers.{big_number-reads_back}
 use Rattle.tx_dvitype.specs.declared.error.DviRule.TheVariants as element
 use Rattle.tx_dvitype.specs.declared.reader.ReadPage.{ReadPage}
 use Rattle.tx_dvitype.specs.declared.reader.Reader.{Reader}
-use Rattle.tx_dvi.specs.Dvi.{comment, day_and_time, four_bytes, preamble}
-use Rattle.tx_dvitype.specs.Files.{stands_at, preamble_start, is_mag, may_begin_preamble, is_preamble, behind_preamble, preamble_taken, may_begin_page, may_begin_post, place_bytes, counts_in, behind_bop, at_post, page_taken, taken, going_on, rest_read, at_start}
+use Rattle.tx_dvi.specs.Dvi.{four_bytes}
+use Rattle.tx_dvitype.specs.Files.{stands_at, preamble_start, is_mag, may_begin_preamble, taken, going_on, rest_read, at_start}
 use Rattle.tx_dvi.specs.Meaning.{Reader as PageReader, page_start}
 use Rattle.tx_dvi.specs.Page.{Page}
 

@@ -1,12 +1,12 @@
 -- The commands of a page are read byte by byte as the reader of a page reads them, up to the eop behind them.
-use Rattle.std.proofs.Common.{◌≡◌, ℕ, suc, nat_le, ◌+◌, ◌==◌, ◌&&◌, Bool, true, false, cond, List, [], ◌∷◌, ◌++◌, length, get_or, drop, fold, Option, Some, None, refl, sym, ap, ◌∙◌, arith, add-zero}
+use Rattle.std.proofs.Common.{◌≡◌, ℕ, ◌==◌, ◌&&◌, Bool, true, false, cond, List, [], ◌∷◌, ◌++◌, length, get_or, drop, Option, Some, None, refl, sym, ap, ◌∙◌, arith}
 use Rattle.std.proofs.lemmas.Bool.{eqb-true}
 use Rattle.tx_dvitype.specs.declared.error.DviRule.{DviRule}
 use Rattle.tx_dvitype.specs.declared.error.DviRule.TheVariants.{Command}
 use Rattle.tx_dvitype.specs.declared.reader.Reader.{Reader}
-use Rattle.tx_dvitype.specs.Files.{taken, taken_by, command_taken, with_definition, with_page, behind_eop, going_on, rest_read}
-use Rattle.tx_dvi.specs.Meaning.{Contents, Reader as PageReader, all_met, carried_out, meaning, page_start, read, when_whole}
-use Rattle.tx_dvitype.specs.Partial.{no_widths, may_begin, kept_near, carried_near, wanted, gathered, is_near, is_level, read_within}
+use Rattle.tx_dvitype.specs.Files.{taken, taken_by, command_taken, with_definition, with_page, behind_eop}
+use Rattle.tx_dvi.specs.Meaning.{Reader as PageReader}
+use Rattle.tx_dvitype.specs.Partial.{may_begin, wanted, gathered, is_level, read_within}
 
 abbrev some_or : {A : Type 0} → A → Option A → A
 some_or d None = d

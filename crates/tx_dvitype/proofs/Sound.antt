@@ -1,30 +1,21 @@
 -- What is read is a file as the grammar says.
-use Rattle.std.proofs.Common.{◌≡◌, ℕ, zero, suc, ◌+◌, ◌-◌, ◌*◌, ◌/◌, ◌%◌, ◌^◌, ◌<◌, ◌≤◌, ◌==◌, ◌&&◌, ◌||◌, ◌⊎◌, nat_le, nat_lt, Bool, true, false, cond, ℤ, pos, List, [], ◌∷◌, ◌++◌, length, get_or, take, drop, map, replicate, Option, Some, None, Result, Ok, Err, refl, sym, ap, ◌∙◌, subst, inl, inr, arith, zero-add, length-append, append_assoc}
-use Rattle.std.specs.List.{flat_map}
-use Rattle.std.proofs.lemmas.Bool.{and_parts, cases_lt, cond_both, eqb-true, eqb-false, leb-true, leb-false, lt-leb, le-ltb, ltb-true, ne_eqb, or_cases, true≢false, false≢true, and_left, and_right, cases_Bool}
+use Rattle.std.proofs.Common.{◌≡◌, ℕ, suc, ◌+◌, ◌-◌, ◌%◌, ◌^◌, ◌<◌, ◌≤◌, ◌==◌, ◌||◌, ◌⊎◌, nat_le, nat_lt, Bool, true, false, cond, ℤ, List, [], ◌∷◌, ◌++◌, length, get_or, take, drop, map, replicate, Option, Some, None, Result, Ok, Err, refl, sym, ap, ◌∙◌, subst, inl, inr, arith, length-append, append_assoc}
+use Rattle.std.proofs.lemmas.Bool.{and_parts, cases_lt, eqb-true, leb-true, lt-leb, ltb-true, ne_eqb, or_cases, true≢false, false≢true, and_left}
 use Rattle.std.proofs.lemmas.List.{append-nil, drop-drop, drop_at, drop_more, ext_get_or, get_or-drop, get_or-take, get_or_append_left, get_or_push, length-drop, length-take-le, length_push, map-append, take-append-drop, take-append-le, take_at}
-use Rattle.std.proofs.lemmas.List.Concat.{flat_map-append}
-use Rattle.std.proofs.lemmas.Option.{cond_some, none-some}
+use Rattle.std.proofs.lemmas.Option.{cond_some}
 use Rattle.tx_dvitype.specs.declared.error.DviRule.{DviRule}
 use Rattle.tx_dvitype.specs.declared.error.DviRule.TheVariants as element
 use Rattle.tx_dvitype.specs.declared.reader.ReadPage.{ReadPage}
 use Rattle.tx_dvitype.specs.declared.reader.Reader.{Reader}
-use Rattle.tx_dvi.specs.declared.font.FontDefinition.{FontDefinition}
-use Rattle.tx_dvi.specs.declared.placed.Registers.{Registers}
-use Rattle.tx_dvi.specs.Dvi.{definition_bytes, definitions_below, filler, four_bytes, two_bytes, units}
-use Rattle.tx_dvi.specs.Meaning.{Reader as PageReader, carried_out, page_start}
-use Rattle.tx_dvitype.specs.Files.{Broken, again_below, at_post, at_start, behind_bop, behind_eop, behind_postamble, behind_preamble, command_taken, counts_in, dvi_file, end_taken, ended, ending, going_on, is_done, is_last, is_mag, is_preamble, mag_in, may_begin_page, may_begin_post, may_begin_preamble, may_stand, page_taken, past_bop, past_postamble, past_preamble, place_bytes, postamble, postamble_taken, preamble_start, preamble_taken, rest_read, stands_at, stopped, taken, taken_by, with_byte, with_definition, with_page}
-use Rattle.tx_dvitype.specs.Grammar.{AreBytes, ArePages, Command, FileText, IsPage, IsTextOf, Lead, PageText, behind, bytes_of, command_bytes, commands_bytes, elements, end_bytes, end_of, fonts_in, last_elements, last_pointer, nowhere, numbers_in, page_long, pages_elements, pointer_to, postamble_bytes, preamble_bytes}
-use Rattle.tx_dvitype.specs.Partial.{no_widths, carried_near, gathered, is_level, is_near, kept_near, may_begin, past, read_within, wanted}
-use Rattle.tx_dvitype.proofs.Amounts.{near-to}
-use Rattle.tx_dvitype.proofs.Bytes.{byte-at}
-use Rattle.tx_dvitype.proofs.Commands.{IsBetween, between-next, left-bytes, right-bytes}
-use Rattle.tx_dvitype.proofs.Complete.{as-many, fonts_of, pointer-long}
-use Rattle.tx_dvitype.proofs.Decoding.{Decoded, decoded, wanted-grows}
-use Rattle.tx_dvitype.proofs.Elements.{counts-are, preamble-is}
-use Rattle.tx_dvitype.proofs.ReadEnd.{at_byte, definitions-again}
-use Rattle.tx_dvitype.proofs.ReadFront.{at_pages}
-use Rattle.tx_dvitype.proofs.ReadPages.{no-bytes, some-of}
+use Rattle.tx_dvi.specs.Dvi.{definition_bytes, filler, four_bytes, two_bytes, units}
+use Rattle.tx_dvi.specs.Meaning.{Reader as PageReader, page_start}
+use Rattle.tx_dvitype.specs.Files.{Broken, again_below, at_post, behind_postamble, counts_in, end_taken, ending, going_on, is_done, is_last, may_begin_page, may_begin_post, may_stand, page_taken, past_bop, past_postamble, place_bytes, postamble_taken, rest_read, stands_at, stopped, taken, taken_by, with_byte}
+use Rattle.tx_dvitype.specs.Grammar.{ArePages, Command, Lead, PageText, bytes_of, commands_bytes, end_bytes, end_of, fonts_in, last_pointer, numbers_in, page_long, pages_elements, pointer_to}
+use Rattle.tx_dvitype.specs.Partial.{past}
+use Rattle.tx_dvitype.proofs.Complete.{fonts_of}
+use Rattle.tx_dvitype.proofs.Elements.{counts-are}
+use Rattle.tx_dvitype.proofs.ReadEnd.{at_byte}
+use Rattle.tx_dvitype.proofs.ReadPages.{some-of}
 
 abbrev pub Read : Type 0
 Read = Result (List ReadPage) Broken

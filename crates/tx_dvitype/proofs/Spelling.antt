@@ -1,19 +1,15 @@
 -- What the reader of a page does at the bytes of a command that may stand where it is.
-use Rattle.std.proofs.Common.{◌≡◌, ℕ, zero, suc, ◌+◌, ◌*◌, ◌-◌, ◌^◌, ◌<◌, ◌≤◌, ◌==◌, ◌&&◌, ◌||◌, ◌⊎◌, not, nat_le, nat_lt, Bool, true, false, cond, ℤ, pos, negsuc, ◌+ℤ◌, List, [], ◌∷◌, ◌++◌, length, get_or, drop, map, Option, Some, None, is_some, refl, sym, ap, ◌∙◌, subst, inl, inr, arith, length-append}
-use Rattle.std.proofs.lemmas.Bool.{and_from, and_parts, and_right, cases_lt, eq-eqb, le-leb, le-ltb, lt-ltb, leb-true, ltb-true, or_left, or_right, cond-true, cond-false, ne_eqb, not_from_false}
-use Rattle.std.proofs.lemmas.Bool.Decides.{nat_tests}
+use Rattle.std.proofs.Common.{◌≡◌, ℕ, zero, suc, ◌+◌, ◌*◌, ◌-◌, ◌^◌, ◌<◌, ◌≤◌, ◌==◌, ◌&&◌, nat_le, nat_lt, true, false, ℤ, pos, ◌+ℤ◌, List, [], ◌∷◌, ◌++◌, length, get_or, drop, map, Option, Some, None, is_some, refl, sym, ap, ◌∙◌, subst, inl, inr, arith, length-append}
+use Rattle.std.proofs.lemmas.Bool.{and_from, and_right, cases_lt, le-leb, le-ltb, lt-ltb, cond-true, cond-false, ne_eqb}
 use Rattle.std.proofs.lemmas.Int.{ints}
 use Rattle.std.proofs.lemmas.List.{append-nil, drop-append-le, drop_all, get_or_append_left}
-use Rattle.std.specs.List.{list_any}
 use Rattle.byteorder.specs.Endian.{big_from, big_number}
-use Rattle.byteorder.specs.Numbers.{big_number-reads_back}
-use Rattle.tx_dvi.specs.declared.font.FontDefinition.{FontDefinition}
 use Rattle.tx_dvi.specs.declared.placed.Registers.{Registers}
-use Rattle.tx_dvi.specs.Dvi.{definition_bytes, unsigned_bytes, IsDefinable}
-use Rattle.tx_dvi.specs.Meaning.{Reader as PageReader, carried_out, character_set, choose, choosing, define, defining, definition_in, definition_operands, is_font_number, is_known, movement_operands, moved, operands, popped, right_by, set_character, signed, special_operands, with_character, with_fonts, with_registers}
+use Rattle.tx_dvi.specs.Dvi.{definition_bytes}
+use Rattle.tx_dvi.specs.Meaning.{Reader as PageReader, carried_out, choose, choosing, is_font_number, is_known, movement_operands, moved, popped, set_character, signed, special_operands, with_character, with_fonts, with_registers}
 use Rattle.tx_dvitype.specs.Files.{with_definition}
-use Rattle.tx_dvitype.specs.Grammar.{Command, SetChar, Set1, SetRule, PutRule, Push, Pop, Right, W0, W, X0, X, Down, Y0, Y, Z0, Z, FntNum, Fnt1, Xxx, FntDef1, AreBytes, HasFont, IsAmount, MayStand, IsNear, amount, behind, command_bytes, defines, lettered, taken_back}
-use Rattle.tx_dvitype.specs.Partial.{no_widths, is_within, is_near, may_begin, may_go, may_move, wanted, is_whole}
+use Rattle.tx_dvitype.specs.Grammar.{Command, SetChar, Set1, SetRule, PutRule, Push, Pop, Right, W0, W, X0, X, Down, Y0, Y, Z0, Z, FntNum, Fnt1, Xxx, AreBytes, HasFont, IsAmount, amount, behind, command_bytes, defines, lettered, taken_back}
+use Rattle.tx_dvitype.specs.Partial.{no_widths, is_within, may_begin, may_go, may_move, wanted, is_whole}
 use Rattle.tx_dvitype.proofs.Amounts.{may-begin-amount}
 use Rattle.tx_dvitype.proofs.Partials.{Moves, moves-so, movement-begins, movement-wanted, movement-carried}
 
@@ -378,4 +374,3 @@ module _ (q : PageReader) where
   spelled-xxx (a ∷ b ∷ c ∷ []) special amount_is is = spelled-xxx3 a b c special is
   spelled-xxx (a ∷ b ∷ c ∷ d ∷ []) special amount_is is = spelled-xxx4 a b c d special is
   spelled-xxx (a ∷ b ∷ c ∷ d ∷ e ∷ size) special amount_is is = absurd (let most : length (a ∷ b ∷ c ∷ d ∷ e ∷ size) ≤ 4 = amount_is.1 in omega (arith, most))
-

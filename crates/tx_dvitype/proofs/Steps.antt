@@ -1,11 +1,10 @@
 -- Bytes that the reader of a file takes one after the other, each at an element of the rule that stands beside it.
-use Rattle.std.proofs.Common.{◌≡◌, ℕ, zero, suc, ◌+◌, ◌<◌, ◌≤◌, Bool, true, List, [], ◌∷◌, ◌++◌, length, replicate, Option, Some, None, Ok, refl, sym, ap, ◌∙◌, subst, arith, add-zero, length-append, append_assoc}
+use Rattle.std.proofs.Common.{◌≡◌, ℕ, suc, ◌+◌, ◌<◌, List, [], ◌∷◌, ◌++◌, length, replicate, Some, refl, sym, ap, ◌∙◌, subst, arith, add-zero, append_assoc}
 use Rattle.std.specs.List.{slice_get}
-use Rattle.std.proofs.lemmas.List.{append-nil, length_push}
-use Rattle.std.proofs.lemmas.Option.{none-some}
+use Rattle.std.proofs.lemmas.List.{length_push}
 use Rattle.tx_dvitype.specs.declared.error.DviRule.{DviRule}
 use Rattle.tx_dvitype.specs.declared.reader.Reader.{Reader}
-use Rattle.tx_dvitype.specs.Files.{taken, going_on, rest_read}
+use Rattle.tx_dvitype.specs.Files.{taken, rest_read}
 use Rattle.tx_dvitype.proofs.ReadEnd.{at_byte}
 use Rattle.tx_dvitype.proofs.ReadFront.{take-one}
 use Rattle.tx_dvitype.proofs.ReadPages.{some-of}
@@ -88,7 +87,10 @@ module _ (rule : DviRule) (r end : Reader) (all : List ℕ) (start : ℕ) where
   gathers at goes done (byte ∷ []) is some = one-step (start + length done) (at_byte r done) end byte rule at (goes done [] byte is)
   gathers at goes done (byte ∷ second ∷ text) is some =
       let long : length (done ++ byte ∷ []) ≡ length done + 1 = length_push done byte in
-      let count : start + length (done ++ byte ∷ []) ≡ (start + length done) + 1 = omega (arith, long) in
-      (at_byte r (done ++ byte ∷ []), at, goes done (second ∷ text) byte is,
-      subst (λ (n : ℕ). Within rule n (at_byte r (done ++ byte ∷ [])) (second ∷ text) end) count
-      (gathers at goes (done ++ byte ∷ []) (second ∷ text) (append_assoc done (byte ∷ []) (second ∷ text) ∙ is) (omega arith)))
+      let count : start + length (done ++ byte ∷ []) ≡ (start + length done) + 1 = omega (arith, long) in (
+        at_byte r (done ++ byte ∷ []),
+        at,
+        goes done (second ∷ text) byte is,
+        subst (λ (n : ℕ). Within rule n (at_byte r (done ++ byte ∷ [])) (second ∷ text) end) count
+            (gathers at goes (done ++ byte ∷ []) (second ∷ text) (append_assoc done (byte ∷ []) (second ∷ text) ∙ is) (omega arith)),
+      )

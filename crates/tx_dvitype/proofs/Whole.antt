@@ -1,30 +1,27 @@
 -- What is read from the first byte on is a file as the grammar says.
-use Rattle.std.proofs.Common.{◌≡◌, ℕ, zero, suc, ◌+◌, ◌-◌, ◌*◌, ◌/◌, ◌%◌, ◌^◌, ◌<◌, ◌≤◌, ◌==◌, ◌&&◌, ◌||◌, ◌⊎◌, not, nat_le, nat_lt, Bool, true, false, cond, ℤ, pos, List, [], ◌∷◌, ◌++◌, length, get_or, take, drop, map, replicate, Option, Some, None, Result, Ok, Err, refl, sym, ap, ◌∙◌, subst, inl, inr, arith, zero-add, length-append, append_assoc}
-use Rattle.std.proofs.lemmas.Bool.{and_from, and_parts, cases_lt, eqb-true, eq-eqb, le-leb, leb-true, leb-false, le-ltb, lt-ltb, ltb-true, ne_eqb, or_right}
-use Rattle.std.proofs.lemmas.List.{append-nil, drop_more, ext_get_or, get_or-take, length-drop, length-take-le, length_push, map-append, take-append-drop}
-use Rattle.std.proofs.lemmas.List.Concat.{flat_map-append}
+use Rattle.std.proofs.Common.{◌≡◌, ℕ, zero, suc, ◌+◌, ◌-◌, ◌<◌, ◌≤◌, ◌==◌, ◌&&◌, ◌||◌, ◌⊎◌, not, nat_le, nat_lt, Bool, true, false, cond, List, [], ◌∷◌, ◌++◌, length, get_or, drop, map, Option, Some, None, Ok, refl, sym, ap, ◌∙◌, subst, inl, inr, arith, length-append, append_assoc}
+use Rattle.std.proofs.lemmas.Bool.{and_from, and_parts, eqb-true, le-leb, leb-true, leb-false, lt-ltb, ltb-true}
+use Rattle.std.proofs.lemmas.List.{append-nil, length_push, map-append}
 use Rattle.std.proofs.lemmas.Option.{cond_some, none-some}
 use Rattle.tx_dvitype.specs.declared.error.DviRule.{DviRule}
 use Rattle.tx_dvitype.specs.declared.error.DviRule.TheVariants as element
 use Rattle.tx_dvitype.specs.declared.reader.ReadPage.{ReadPage}
 use Rattle.tx_dvitype.specs.declared.reader.Reader.{Reader}
 use Rattle.tx_dvi.specs.declared.placed.Registers.{Registers}
-use Rattle.tx_dvi.specs.Dvi.{definition_bytes, definitions_below}
+use Rattle.tx_dvi.specs.Dvi.{definition_bytes}
 use Rattle.tx_dvi.specs.Meaning.{Reader as PageReader, carried_out, page_start}
-use Rattle.tx_dvitype.specs.Files.{again_below, at_post, at_start, behind_bop, behind_eop, behind_preamble, command_taken, counts_in, dvi_file, is_last, is_mag, is_preamble, mag_in, may_begin_page, may_begin_post, may_begin_preamble, may_stand, past_bop, past_preamble, place_bytes, preamble_start, preamble_taken, rest_read, stands_at, taken, taken_by, with_byte, with_definition, with_page}
-use Rattle.tx_dvitype.specs.Grammar.{AreBytes, ArePages, Command, FileText, IsTextOf, Lead, behind, bytes_of, command_bytes, commands_bytes, defines, elements, end_bytes, end_of, fonts_in, last_elements, last_pointer, nowhere, pages_elements, pointer_to, postamble_bytes, preamble_bytes}
-use Rattle.tx_dvitype.specs.Partial.{no_widths, carried_near, gathered, is_level, is_near, is_whole, kept_near, may_begin, past, read_within, wanted}
+use Rattle.tx_dvitype.specs.Files.{at_post, behind_bop, behind_eop, command_taken, counts_in, is_last, may_begin_page, may_begin_post, may_stand, past_bop, place_bytes, rest_read, stands_at, taken, taken_by, with_definition, with_page}
+use Rattle.tx_dvitype.specs.Grammar.{AreBytes, Command, behind, command_bytes, commands_bytes, defines, fonts_in}
+use Rattle.tx_dvitype.specs.Partial.{no_widths, carried_near, gathered, is_level, is_near, kept_near, may_begin, past, read_within, wanted}
 use Rattle.tx_dvitype.proofs.Amounts.{near-to}
-use Rattle.tx_dvitype.proofs.Bytes.{byte-at, bytes-append}
+use Rattle.tx_dvitype.proofs.Bytes.{bytes-append}
 use Rattle.tx_dvitype.proofs.Commands.{IsBetween, between-next}
-use Rattle.tx_dvitype.proofs.Complete.{as-many, fonts_of, pointer-long}
+use Rattle.tx_dvitype.proofs.Complete.{pointer-long}
 use Rattle.tx_dvitype.proofs.Decoding.{Decoded, decoded, wanted-grows}
-use Rattle.tx_dvitype.proofs.Elements.{preamble-is}
 use Rattle.tx_dvitype.proofs.Numbers.{AreDistinct}
-use Rattle.tx_dvitype.proofs.ReadEnd.{at_byte, definitions-again}
-use Rattle.tx_dvitype.proofs.ReadFront.{at_pages}
+use Rattle.tx_dvitype.proofs.ReadEnd.{at_byte}
 use Rattle.tx_dvitype.proofs.ReadPages.{no-bytes, some-of}
-use Rattle.tx_dvitype.proofs.Sound.{FromCommands, FromPages, Goes, Passed, PostSo, at_it, expected-long, goes, no-byte, not-done, page-next, page-pages, passed-push, post-pages, post_text, sound-post, tail}
+use Rattle.tx_dvitype.proofs.Sound.{FromCommands, FromPages, Goes, Passed, PostSo, expected-long, goes, no-byte, not-done, page-next, page-pages, passed-push, post-pages, sound-post}
 
 -- in the midst of a page
 abbrev pub mid : Reader → PageReader → List ℕ → Reader

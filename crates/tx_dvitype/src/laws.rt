@@ -27,8 +27,3 @@ pub fn pages_are_read_by_their_meaning()
 pub fn assembled_files_are_read_back()
     ensures { (first : Page) (others : List Page) (placed : List (List Placed)) → 1 ≤ first.mag → first.mag ≤ 32768 → FitsSigned w32 first.date.year → length others < 10000 → length (preamble first) + sum_by page_size (first ∷ others) < 2 ^ 31 → AreReadable [] (first ∷ others) placed → IsDviFile (dvi (first ∷ others)) (read_pages (first ∷ others) placed) }
 {}
-
-/// trial
-pub fn trial()
-    ensures { (n : ℕ) → length (n ∷ []) ≡ 1 }
-{}
