@@ -132,3 +132,8 @@ append-default [] zero d = refl
 append-default [] (suc k) d = refl
 append-default (x ∷ bytes) zero d = refl
 append-default (x ∷ bytes) (suc k) d = append-default bytes k d
+
+-- what a slice of bytes holds
+pub are-bytes : (xs : List ℕ) → ((i : ℕ) → get_or xs i 0 < 256) → AreBytes xs
+are-bytes [] small = tt
+are-bytes (x ∷ xs) small = (small 0, are-bytes xs (λ i. small (suc i)))

@@ -1,13 +1,15 @@
 -- What stands before a refusal begins a DVI file, and nothing longer does.
-use Rattle.std.proofs.Common.{◌≡◌, ℕ, zero, suc, ◌+◌, ◌-◌, ◌<◌, ◌≤◌, ◌⊎◌, nat_le, Bool, true, false, cond, List, [], ◌∷◌, ◌++◌, length, get_or, take, Option, Some, None, Ok, Err, refl, sym, ap, ◌∙◌, subst, inl, inr, arith, add-zero, zero-add}
-use Rattle.std.proofs.lemmas.Bool.{leb-false, true≢false}
+use Rattle.std.proofs.Common.{◌≡◌, ℕ, zero, suc, ◌+◌, ◌-◌, ◌<◌, ◌≤◌, ◌==◌, ◌⊎◌, nat_le, Bool, true, false, cond, List, [], ◌∷◌, ◌++◌, length, get_or, take, Option, Some, None, Ok, Err, refl, sym, ap, ◌∙◌, subst, inl, inr, arith, add-zero, zero-add}
+use Rattle.std.proofs.lemmas.Bool.{and_parts, leb-false, true≢false}
 use Rattle.std.proofs.lemmas.List.{length-take-le, length_push, take-append-le, take-take}
+use Rattle.tx_dvitype.specs.declared.error.DviError.{DviError}
+use Rattle.tx_dvitype.specs.declared.error.DviError.TheVariants.{BadDvi, OutOfMemory}
 use Rattle.tx_dvitype.specs.declared.error.DviRule.{DviRule}
 use Rattle.tx_dvitype.specs.declared.error.DviRule.TheVariants.{File, Preamble, Page, Command, Postamble, End}
 use Rattle.tx_dvitype.specs.declared.reader.ReadPage.{ReadPage}
 use Rattle.tx_dvitype.specs.declared.reader.Reader.{Reader}
-use Rattle.tx_dvitype.specs.Files.{Broken, is_done, stopped, going_on, taken, rest_read, at_start, dvi_file}
-use Rattle.tx_dvitype.specs.Grammar.{AreBytes, BeginsFile, IsFurthest, IsNextRule, IsRefusal, elements, rules_of}
+use Rattle.tx_dvitype.specs.Files.{Broken, IsCause, is_done, is_last, stopped, going_on, taken, rest_read, at_start, dvi_file}
+use Rattle.tx_dvitype.specs.Grammar.{AreBytes, BeginsFile, IsDviFile, IsFurthest, IsNextRule, IsNoFile, IsRefusal, elements, rules_of}
 use Rattle.tx_dvi.specs.Meaning.{Reader as PageReader, carried_out}
 use Rattle.tx_dvitype.specs.Partial.{no_widths, is_near, kept_near, carried_near, gathered, may_begin, read_within, wanted}
 use Rattle.tx_dvitype.proofs.Bytes.{bytes-append, definitions-on}
@@ -20,7 +22,7 @@ use Rattle.tx_dvitype.proofs.ReadFront.{take-one}
 use Rattle.tx_dvitype.proofs.ReadPages.{byte-goes, next-reader}
 use Rattle.tx_dvitype.proofs.Refused.{Read, place_or, refused-so}
 use Rattle.tx_dvitype.proofs.Standing.{InPage, Next, Stands, StandsSomewhere, page-next, stands-at-start, stands-on}
-use Rattle.tx_dvitype.proofs.Steps.{Reaches, rule-there}
+use Rattle.tx_dvitype.proofs.Steps.{Reaches, rule-there, same-end}
 
 -- the next byte of a command that is begun
 record Goes (p : PageReader) (byte : ℕ) : Type 0 where
@@ -254,10 +256,34 @@ next-rule bytes broken refused file pages next more is =
     (subst (λ (n : ℕ). Reaches 0 at_start (take n bytes) t.reader) (sym at) t.reaches)
     ∙ (λ i. Some (t.rule i))
 
+-- nothing may follow a whole file
+last-is : (rule : DviRule) → is_last rule ≡ true → rule ≡ End
+last-is File e = absurd (true≢false (sym e))
+last-is Preamble e = absurd (true≢false (sym e))
+last-is Page e = absurd (true≢false (sym e))
+last-is Command e = absurd (true≢false (sym e))
+last-is Postamble e = absurd (true≢false (sym e))
+last-is End e = refl
+
+whole-rule : (bytes : List ℕ) (broken : Broken) → dvi_file bytes ≡ Err broken → (pages : List ReadPage) → IsDviFile (take broken.place bytes) pages → broken.rule ≡ End
+whole-rule bytes broken refused pages is =
+    let t : Stopped 0 at_start bytes broken = stopped-at 0 at_start bytes broken refused in
+    let at : broken.place ≡ t.left = t.there ∙ zero-add t.left in
+    let s : Ended 0 at_start (take broken.place bytes) (rules_of (elements is.0)) pages = file-ends (take broken.place bytes) is.0 pages is.1 in
+    let same : s.final ≡ t.reader = same-end 0 at_start s.final t.reader (take broken.place bytes) (rules_of (elements is.0)) s.steps (subst (λ (n : ℕ). Reaches 0 at_start (take n bytes) t.reader) (sym at) t.reaches) in
+    let done : is_last s.final.element ≡ true = (and_parts (is_last s.final.element) (length s.final.page.begun == length s.final.expected) s.done).0 in
+    sym t.rule ∙ ap (λ (r : Reader). r.element) (sym same) ∙ last-is s.final.element done
+
 -- why bytes are refused
 pub refusal : (bytes : List ℕ) (broken : Broken) → AreBytes bytes → dvi_file bytes ≡ Err broken → IsRefusal bytes broken.place broken.rule
 refusal bytes broken are refused = record {
   none = λ pages is. read-refused pages broken (dvi_file bytes) (complete bytes pages is) refused;
   furthest = furthest bytes broken are refused;
   next = next-rule bytes broken refused;
+  whole = whole-rule bytes broken refused;
 }
+
+-- the cause of a refusal
+pub no-file : (bytes : List ℕ) (e : DviError) → AreBytes bytes → IsCause (dvi_file bytes) e → IsNoFile bytes e
+no-file bytes (BadDvi place rule) are is = refusal bytes (record { place = place; rule = rule }) are is
+no-file bytes OutOfMemory are is = tt

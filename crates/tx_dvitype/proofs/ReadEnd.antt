@@ -1,4 +1,4 @@
--- What stands behind the pages of an assembled file, as it is read.
+-- A reader in the midst of an element, and the definitions of fonts once more.
 use Rattle.std.proofs.Common.{◌≡◌, ℕ, zero, suc, ◌==◌, Bool, true, false, cond, List, [], ◌∷◌, ◌++◌, map, refl, ap}
 use Rattle.std.specs.List.{flat_map}
 use Rattle.tx_dvi.specs.declared.font.FontDefinition.{FontDefinition}

@@ -1,4 +1,4 @@
--- The preamble of an assembled file, and the bop of a page, as they are read.
+-- States of the reader of a file, and what it reads of a number.
 use Rattle.std.proofs.Common.{◌≡◌, ℕ, ◌+◌, ◌*◌, ◌^◌, ◌<◌, ◌≤◌, ◌==◌, ◌&&◌, nat_lt, nat_le, Bool, true, false, cond, ℤ, pos, negsuc, List, [], ◌∷◌, ◌++◌, length, get_or, Some, ap, ◌∙◌, arith, w32, FitsSigned, to_z-of_z}
 use Rattle.std.proofs.lemmas.Bool.{lt-ltb, le-ltb, eq-eqb, ne_eqb}
 use Rattle.std.proofs.lemmas.Int.{ints}

@@ -1,4 +1,4 @@
--- The commands of a page are read byte by byte as the reader of a page reads them, up to the eop behind them.
+-- A byte of a page is taken by the reader of a file as by that of a page, and eop ends the page.
 use Rattle.std.proofs.Common.{◌≡◌, ℕ, ◌==◌, ◌&&◌, Bool, true, false, cond, List, [], ◌∷◌, ◌++◌, length, get_or, drop, Option, Some, None, refl, sym, ap, ◌∙◌, arith}
 use Rattle.std.proofs.lemmas.Bool.{eqb-true}
 use Rattle.tx_dvitype.specs.declared.error.DviRule.{DviRule}

@@ -24,7 +24,7 @@ abbrev pages_or : List ReadPage → Read → List ReadPage
 pages_or pages (Ok read) = read
 pages_or pages (Err broken) = pages
 
-ok-of : (x y : List ReadPage) → ◌≡◌ {A = Read} (Ok x) (Ok y) → x ≡ y
+pub ok-of : (x y : List ReadPage) → ◌≡◌ {A = Read} (Ok x) (Ok y) → x ≡ y
 ok-of x y e = ap (λ (r : Read). pages_or x r) e
 
 abbrev is_read : Read → Bool

@@ -53,6 +53,14 @@ abbrev pub Reaches : ℕ → Reader → List ℕ → Reader → Type 0
 Reaches place r [] end = r ≡ end
 Reaches place r (byte ∷ bytes) end = (next : Reader) × (taken place r byte ≡ Some next) × Reaches (place + 1) next bytes end
 
+-- it is in one place
+pub same-end : (place : ℕ) (r end there : Reader) (bytes : List ℕ) (rules : List DviRule) → Steps place r bytes rules end → Reaches place r bytes there → end ≡ there
+same-end place r end there [] rules steps reached = sym steps.1 ∙ reached
+same-end place r end there (byte ∷ bytes) [] steps reached = absurd steps
+same-end place r end there (byte ∷ bytes) (rule ∷ rules) steps reached =
+    let same : steps.0 ≡ reached.0 = some-of (sym steps.2 ∙ reached.1) in
+    same-end (place + 1) steps.0 end there bytes rules steps.3 (subst (λ (s : Reader). Reaches (place + 1) s bytes there) (sym same) reached.2)
+
 -- the rule of the byte that comes next there
 pub rule-there : (place : ℕ) (r end there : Reader) (front more : List ℕ) (next : ℕ) (bytes : List ℕ) (rules : List DviRule) → Steps place r bytes rules end → bytes ≡ front ++ next ∷ more → Reaches place r front there
     → slice_get rules (length front) ≡ Some there.element

@@ -277,11 +277,12 @@ pub record IsFurthest (bytes : List ℕ) (place : ℕ) : Type 0 where
 abbrev pub IsNextRule : List ℕ → DviRule → Type 0
 IsNextRule front rule = (file : FileText) (pages : List ReadPage) (next : ℕ) (more : List ℕ) → IsTextOf (front ++ next ∷ more) file pages → slice_get (rules_of (elements file)) (length front) ≡ Some rule
 
--- why bytes are no DVI file
+-- Why bytes are no DVI file. Where those before the refused one are a whole file, nothing may follow them.
 pub record IsRefusal (bytes : List ℕ) (place : ℕ) (rule : DviRule) : Type 0 where
   pub none : (pages : List ReadPage) → IsDviFile bytes pages → ⊥
   pub furthest : IsFurthest bytes place
   pub next : IsNextRule (take place bytes) rule
+  pub whole : (pages : List ReadPage) → IsDviFile (take place bytes) pages → rule ≡ element.End
 
 -- a refusal is right about the bytes; want of memory says nothing of them
 abbrev pub IsNoFile : List ℕ → DviError → Type 0
