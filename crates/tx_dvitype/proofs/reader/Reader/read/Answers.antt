@@ -5,7 +5,7 @@ use Rattle.tx_dvitype.specs.declared.error.DviError.{DviError}
 use Rattle.tx_dvitype.specs.declared.reader.ReadPage.{ReadPage}
 use Rattle.tx_dvitype.specs.declared.reader.Reader.{Reader}
 use Rattle.tx_dvitype.specs.Files.{IsCause, at_start, dvi_file, rest_read}
-use Rattle.tx_dvitype.specs.Grammar.{AreBytes, IsDviFile, IsNoFile}
+use Rattle.tx_dvitype.specs.Grammar.{IsDviFile, IsNoFile}
 use Rattle.tx_dvitype.proofs.Bytes.{are-bytes}
 use Rattle.tx_dvitype.proofs.Exactly.{complete, sound}
 use Rattle.tx_dvitype.proofs.Furthest.{no-file}
