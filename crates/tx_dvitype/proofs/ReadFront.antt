@@ -11,7 +11,6 @@ use Rattle.tx_dvitype.specs.declared.reader.Reader.{Reader}
 use Rattle.tx_dvi.specs.Dvi.{four_bytes}
 use Rattle.tx_dvitype.specs.Files.{stands_at, preamble_start, is_mag, may_begin_preamble, taken, going_on, rest_read, at_start}
 use Rattle.tx_dvi.specs.Meaning.{Reader as PageReader, page_start}
-use Rattle.tx_dvi.specs.Page.{Page}
 
 -- a byte that is taken
 pub take-one : (place : ℕ) (r next : Reader) (byte : ℕ) (rest : List ℕ) → taken place r byte ≡ Some next → rest_read place r (byte ∷ rest) ≡ rest_read (place + 1) next rest

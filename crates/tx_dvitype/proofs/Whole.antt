@@ -11,7 +11,7 @@ use Rattle.tx_dvi.specs.declared.placed.Registers.{Registers}
 use Rattle.tx_dvi.specs.Dvi.{definition_bytes}
 use Rattle.tx_dvi.specs.Meaning.{Reader as PageReader, carried_out, page_start}
 use Rattle.tx_dvitype.specs.Files.{at_post, behind_bop, behind_eop, command_taken, counts_in, is_last, may_begin_page, may_begin_post, may_stand, past_bop, place_bytes, rest_read, stands_at, taken, taken_by, with_definition, with_page}
-use Rattle.tx_dvitype.specs.Grammar.{AreBytes, Command, behind, command_bytes, commands_bytes, defines, fonts_in}
+use Rattle.tx_dvitype.specs.Grammar.{AreBytes, behind, command_bytes, commands_bytes, defines, fonts_in}
 use Rattle.tx_dvitype.specs.Partial.{no_widths, carried_near, gathered, is_level, is_near, kept_near, may_begin, past, read_within, wanted}
 use Rattle.tx_dvitype.proofs.Amounts.{near-to}
 use Rattle.tx_dvitype.proofs.Bytes.{bytes-append}
