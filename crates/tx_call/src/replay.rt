@@ -1,11 +1,12 @@
 //! The commands of a script, one by one.
-ghost use Rattle.std.specs.Prelude.{◌≡◌, ◌∷◌, [], ◌+◌, ◌<◌, ◌≤◌, ◌^◌, IfOk, OnOk, IsErrOf};
+ghost use Rattle.std.specs.Prelude.{◌≡◌, ◌∷◌, [], true, ◌+◌, ◌<◌, ◌≤◌, ◌^◌, IfOk, OnOk, IsErrOf};
 ghost use Rattle.tx_io.specs.Output.{Say};
 ghost use Rattle.tx_machine.specs.Steps.{raised};
 ghost use Rattle.tx_session.specs.Held.{fresh};
+ghost use Rattle.tx_session.specs.Refusals.{may_want};
 ghost use Rattle.tx_session.specs.Report.{turns_of_changes};
 ghost use Rattle.tx_call.specs.Lines.{edit_line as made_line};
-ghost use Rattle.tx_call.specs.Replay.{Puts, Replays, IsEdit, opened, next_made, next_moment, moment_after, line_of, refused_line, pieces_at, pieces_from, turns_at, turns_from, refused_pieces, refusal_at};
+ghost use Rattle.tx_call.specs.Replay.{Puts, Replays, MayWant, opened, next_made, next_moment, moment_after, line_of, refused_line, pieces_at, pieces_from, turns_at, turns_from, refused_pieces, refusal_at};
 ghost use Rattle.tx_call.specs.Tally.{moment};
 ghost use Rattle.tx_call.specs.Trouble.{PutsOut, SinkCauses, EditCauses};
 
@@ -102,6 +103,7 @@ fn run_changes<M: Machine, K: Sink>(
     requires { tally.old.edits + 1 < 2 ^ 64 }
     ensures moment { OnOk result (moment session.new tally.new ≡ next_made (moment session.old tally.old) changes.now) }
     ensures puts { Puts (Say (line_of M.formatter (moment session.old tally.old) together changes.now) ∷ []) (refused_pieces M.formatter out.now (moment session.old tally.old)) result (K.output sink.old) (K.output sink.new) }
+    ensures refused { IsErrOf result Interruption.RefusedEdit → may_want session.old.files changes.now ≡ true }
     ensures counted { OnOk result (steps.new ≡ raised steps.old (turns_of_changes M.formatter session.old changes.now)) }
     ensures most { steps.new ≤ raised steps.old (turns_of_changes M.formatter session.old changes.now) }
     ensures causes { EditCauses result (K.faults sink.old) (K.faults sink.new) }
@@ -143,7 +145,7 @@ fn run_command<M: Machine, K: Sink>(
     ensures edits { OnOk result (tally.new.edits ≤ tally.old.edits + 1) }
     ensures places { OnOk result (tally.new.places ≤ tally.old.places + 1) }
     ensures puts { Puts (pieces_at M.formatter (moment session.old tally.old) command.now) (refused_pieces M.formatter out.now (moment session.old tally.old)) result (K.output sink.old) (K.output sink.new) }
-    ensures refused { IsErrOf result Interruption.RefusedEdit → IsEdit command.now }
+    ensures refused { IsErrOf result Interruption.RefusedEdit → MayWant session.old.files command.now }
     ensures counted { OnOk result (steps.new ≡ raised steps.old (turns_at M.formatter (moment session.old tally.old) command.now)) }
     ensures most { steps.new ≤ raised steps.old (turns_at M.formatter (moment session.old tally.old) command.now) }
     ensures causes { EditCauses result (K.faults sink.old) (K.faults sink.new) }
