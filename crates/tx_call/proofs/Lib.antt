@@ -8,3 +8,4 @@ pub mod Held
 pub mod Chains
 pub mod SaidLines
 pub mod Dvi
+pub mod Agreeing
