@@ -1,6 +1,6 @@
 -- The command line of `vortex`, as the parser `clap` is told of it:
 -- `vortex run --date Y-M-D-T --out NAME [--script EDITS] [--budget N] [--pages N] [--keep N] FILE..`, `vortex gen SEED PAGES`,
--- `vortex list FILE`, `--help` and `--version`.
+-- `vortex list FILE`, `vortex serve --date Y-M-D-T [--budget N] [--pages N] [--keep N] FILE..`, `--help` and `--version`.
 use Rattle.std.specs.Prelude.{List, ℕ, true, codes, Option, Some}
 use Rattle.clap.specs.Words.{App, Rule, Row, Shape, Kinds, fault_of, new_app, new_rule, subcommand_of, with_rule, with_subcommand}
 use Rattle.clap.specs.Simple.{on_top}
