@@ -9,3 +9,7 @@ pub mod Chains
 pub mod SaidLines
 pub mod Dvi
 pub mod Agreeing
+pub mod Answering
+pub mod HeardSoFar
+pub mod ServedFiles
+pub mod Changing

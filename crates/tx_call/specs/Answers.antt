@@ -1,5 +1,5 @@
 -- What a document that is served answers to what comes in.
-use Rattle.std.specs.Prelude.{◌≡◌, ◌≢◌, ℕ, false, ◌+◌, ◌≤◌, List, [], ◌∷◌, ◌++◌, Option, Some, None}
+use Rattle.std.specs.Prelude.{◌≡◌, ◌≢◌, ℕ, false, ◌+◌, List, [], ◌∷◌, ◌++◌, Option, Some, None}
 use Rattle.std.specs.Option.{unwrap_or}
 use Rattle.tx_io.specs.Output.{Piece, Say}
 use Rattle.tx_differing.specs.Differing.{edit_to}
@@ -74,32 +74,38 @@ wanting t (Page k) = Some (says t (page_memory_line k))
 wanting t Log = None
 wanting t (LogOf k) = None
 
--- what comes of what comes in: a request is answered, or memory is wanting for it, after so many turns; or bytes are no request
+-- what comes of what comes in: a request is answered, or memory is wanting for it; or bytes are no request
 pub data Event : Type 0 where
   Answered : Request → Event
-  Wanting : Request → ℕ → Event
+  Wanting : Request → Event
   Unread : Rule → Event
 
 -- as what it was read
 abbrev pub read_as : Event → Next
 read_as (Answered r) = Asks r
-read_as (Wanting r turns) = Asks r
+read_as (Wanting r) = Asks r
 read_as (Unread rule) = Refused rule
 
 abbrev pub nothing : Sitting → Effect
 nothing t = record { pieces = []; behind = t; turns = 0 }
 
--- what comes of it
+-- what comes of it; where memory is wanting, the turns are those of the request at most
 abbrev pub came : {S : Type 0} → Formatter S → Sitting → Event → Effect
 came m t (Answered r) = answer_to m t r
-came m t (Wanting r turns) = record (unwrap_or (wanting t r) (nothing t)) { turns = turns }
+came m t (Wanting r) = record (unwrap_or (wanting t r) (nothing t)) { turns = (answer_to m t r).turns }
 came m t (Unread rule) = says t (request_refusal_line rule)
 
--- memory is wanting only for what takes some, and after no more turns than the request takes
-abbrev pub MayCome : {S : Type 0} → Formatter S → Sitting → Event → Type 0
-MayCome m t (Answered r) = Unit {0}
-MayCome m t (Wanting r turns) = (wanting t r ≢ None) × (turns ≤ (answer_to m t r).turns)
-MayCome m t (Unread rule) = Unit {0}
+-- memory is wanting only for what takes some
+abbrev pub MayCome : Sitting → Event → Type 0
+MayCome t (Answered r) = Unit {0}
+MayCome t (Wanting r) = wanting t r ≢ None
+MayCome t (Unread rule) = Unit {0}
+
+-- it wasn't
+abbrev pub IsExact : Event → Type 0
+IsExact (Answered r) = Unit {0}
+IsExact (Wanting r) = ⊥
+IsExact (Unread rule) = Unit {0}
 
 -- the same of all that comes in, one after the other
 abbrev pub before_all : Effect → Effect → Effect
@@ -111,7 +117,11 @@ all_came m t (e ∷ events) = before_all (came m t e) (all_came m (came m t e).b
 
 abbrev pub AllMayCome : {S : Type 0} → Formatter S → Sitting → List Event → Type 0
 AllMayCome m t [] = Unit {0}
-AllMayCome m t (e ∷ events) = MayCome m t e × AllMayCome m (came m t e).behind events
+AllMayCome m t (e ∷ events) = MayCome t e × AllMayCome m (came m t e).behind events
+
+abbrev pub AreExact : List Event → Type 0
+AreExact [] = Unit {0}
+AreExact (e ∷ events) = IsExact e × AreExact events
 
 -- The law that binds requests to scripts: behind a request that a script has too, the document is that of the script behind its command,
 -- with the same counts; and where no earlier run is kept, what is put out and the turns are those of the script too.

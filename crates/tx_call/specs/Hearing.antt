@@ -14,31 +14,31 @@ use Rattle.tx_call.specs.declared.tally.Tally.{Tally}
 use Rattle.tx_call.specs.declared.trouble.Trouble.{Trouble}
 use Rattle.tx_call.specs.declared.trouble.Break.{Break}
 use Rattle.tx_call.specs.declared.trouble.Break.TheVariants as breaks
-use Rattle.tx_call.specs.Answers.{Event, read_as, came, all_came, begun_at, MayCome, AllMayCome}
+use Rattle.tx_call.specs.Answers.{Event, read_as, came, all_came, begun_at, MayCome, AllMayCome, IsExact, AreExact}
 use Rattle.tx_call.specs.Lines.{refusal_line}
 use Rattle.tx_call.specs.Serving.{IsServed, IsServedInPart, IsServedToTheEnd}
-use Rattle.tx_call.specs.Sitting.{Sitting, Effect, Comes, ComesInPart}
+use Rattle.tx_call.specs.Sitting.{Sitting, ComesWithin, ComesInPart}
 use Rattle.tx_call.specs.Tally.{sitting}
 use Rattle.tx_call.specs.Trouble.{Causes, SinkCauses}
 
 -- all of it came, or trouble did in its midst
-abbrev pub ComesBy : {T : Type 0} → Result T Trouble → Effect → Sitting → Option Output → Option Output → ℕ → ℕ → Type 0
-ComesBy (Ok value) e after output output' steps steps' = Comes e after output output' steps steps'
-ComesBy (Err trouble) e after output output' steps steps' = ComesInPart e output output' steps steps'
+abbrev pub ComesBy : {S T : Type 0} → Formatter S → Result T Trouble → Event → Sitting → Sitting → Option Output → Option Output → ℕ → ℕ → Type 0
+ComesBy m (Ok value) event t t' output output' steps steps' = ComesWithin (came m t event) (IsExact event) t' output output' steps steps'
+ComesBy m (Err trouble) event t t' output output' steps steps' = ComesInPart (came m t event) output output' steps steps'
 
 -- a request was answered, or memory was wanting for it
 pub record Answers {S T : Type 0} (m : Formatter S) (r : Request) (result : Result T Trouble) (t t' : Sitting) (before after : Option Output) (steps steps' : ℕ) : Type 0 where
   pub event : Event
   pub asked : read_as event ≡ Asks r
-  pub may_come : MayCome m t event
-  pub comes : ComesBy result (came m t event) t' before after steps steps'
+  pub may_come : MayCome t event
+  pub comes : ComesBy m result event t t' before after steps steps'
 
 -- what came in next was answered, of an inlet that tells
 pub record HearsOne {S T : Type 0} (m : Formatter S) (result : Result T Trouble) (left left' : Option (List ℕ)) (t t' : Sitting) (before after : Option Output) (steps steps' : ℕ) : Type 0 where
   pub event : Event
   pub read : IsNext (read_as event) left left'
-  pub may_come : MayCome m t event
-  pub comes : ComesBy result (came m t event) t' before after steps steps'
+  pub may_come : MayCome t event
+  pub comes : ComesBy m result event t t' before after steps steps'
 
 -- nothing was put out, and no turn taken
 pub record IsSilent (before after : Option Output) (steps steps' : ℕ) : Type 0 where
@@ -68,7 +68,7 @@ pub record Heard {S : Type 0} (m : Formatter S) (t t' : Sitting) (left left' : O
   pub events : List Event
   pub read : AreReadUpTo left events left'
   pub may_come : AllMayCome m t events
-  pub comes : Comes (all_came m t events) t' before after steps steps'
+  pub comes : ComesWithin (all_came m t events) (AreExact events) t' before after steps steps'
 
 -- or the first of it
 pub record HeardInPart {S : Type 0} (m : Formatter S) (t : Sitting) (left : Option (List ℕ)) (before after : Option Output) (steps steps' : ℕ) : Type 0 where

@@ -12,7 +12,7 @@ use Rattle.tx_session.specs.Standing.{now}
 use Rattle.tx_words.specs.declared.given.Serving.{Serving}
 use Rattle.tx_words.specs.declared.given.Asked.{Asked}
 use Rattle.tx_words.specs.declared.given.Asked.TheVariants.{Serve}
-use Rattle.tx_call.specs.Answers.{Event, AllMayCome, all_came, begun, read_as}
+use Rattle.tx_call.specs.Answers.{Event, AllMayCome, AreExact, all_came, begun, read_as}
 use Rattle.tx_call.specs.Outcome.{first_piece, served, with_listed}
 use Rattle.tx_call.specs.Replay.{status_after}
 use Rattle.tx_call.specs.Sitting.{Sitting}
@@ -33,13 +33,14 @@ served_turns m held events = (fresh m held).turns + (all_came m (begun held) eve
 abbrev pub status_of : {S : Type 0} → Formatter S → Sitting → ℕ
 status_of m t = status_after (fresh m (now t.standing)).ran.end t.outside
 
--- some events were answered, and all of that was put out
+-- some events were answered, and all of that was put out; the turns are theirs, unless memory was wanting for one
 pub record IsServed {S : Type 0} (m : Formatter S) (held : Held) (left : Option (List ℕ)) (before after : Option Output) (steps steps' : ℕ) : Type 0 where
   pub events : List Event
   pub rest : List ℕ
   pub heard : AreHeard m (begun held) left events rest
   pub output_is : after ≡ told before (served_pieces m held events)
-  pub steps_are : steps' ≡ raised steps (served_turns m held events)
+  pub most : steps' ≤ raised steps (served_turns m held events)
+  pub steps_are : AreExact events → steps' ≡ raised steps (served_turns m held events)
 
 -- or the first of it
 pub record IsServedInPart {S : Type 0} (m : Formatter S) (held : Held) (left : Option (List ℕ)) (before after : Option Output) (steps steps' : ℕ) : Type 0 where

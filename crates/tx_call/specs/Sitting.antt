@@ -81,6 +81,13 @@ pub record Comes (e : Effect) (after : Sitting) (output output' : Option Output)
   pub output_is : output' ≡ told output e.pieces
   pub steps_are : steps' ≡ raised steps e.turns
 
+-- the same of something of which the turns are known exactly where that is so, and else by a bound
+pub record ComesWithin (e : Effect) (exact : Type 0) (after : Sitting) (output output' : Option Output) (steps steps' : ℕ) : Type 0 where
+  pub sitting_is : after ≡ e.behind
+  pub output_is : output' ≡ told output e.pieces
+  pub most : steps' ≤ raised steps e.turns
+  pub steps_are : exact → steps' ≡ raised steps e.turns
+
 -- trouble came in its midst: only the first of its pieces were put out
 pub record ComesInPart (e : Effect) (output output' : Option Output) (steps steps' : ℕ) : Type 0 where
   pub cut : IsCutShort output e.pieces output'

@@ -1,0 +1,121 @@
+-- The line of a run, and then the answers to what came in.
+use Rattle.std.proofs.Common.{◌≡◌, ◌≢◌, ℕ, ◌+◌, ◌≤◌, ◌<◌, ◌⊎◌, inl, inr, ⊎_elim, List, [], ◌∷◌, ◌++◌, map, Option, Some, None, Result, Ok, Err, refl, sym, ap, subst, ◌∙◌, arith, append-nil}
+use Rattle.std.specs.Prelude.{IfSome, unwrap_or, IsErrAnd}
+use Rattle.std.specs.Option.{IsSomeAnd}
+use Rattle.tx_bytes.specs.Files.{Files}
+use Rattle.tx_io.specs.Output.{Output, Piece, told}
+use Rattle.tx_io.specs.Cut.{IsCutShort}
+use Rattle.tx_io.proofs.Told.{told-append}
+use Rattle.tx_io.proofs.CutShort.{cut-nothing, cut-behind, cut-longer}
+use Rattle.tx_machine.specs.Machine.{Formatter}
+use Rattle.tx_machine.specs.Steps.{raised}
+use Rattle.tx_request.specs.Requests as requests
+use Rattle.tx_request.specs.Requests.{AreRead}
+use Rattle.tx_session.specs.Held.{Held, fresh}
+use Rattle.tx_session.specs.Standing.{now}
+use Rattle.tx_call.specs.declared.trouble.Trouble.{Trouble}
+use Rattle.tx_call.specs.declared.trouble.Break.{Break}
+use Rattle.tx_call.specs.declared.trouble.Break.TheVariants as breaks
+use Rattle.tx_call.specs.Answers.{Event, read_as, all_came, begun, AllMayCome, AreExact}
+use Rattle.tx_call.specs.Hearing.{AreReadUpTo, Heard, HeardInPart, ServesFiles}
+use Rattle.tx_call.specs.Outcome.{first_piece}
+use Rattle.tx_call.specs.Replay.{status_after}
+use Rattle.tx_call.specs.Serving.{AreHeard, IsServed, IsServedInPart, IsServedToTheEnd, ServeLeaves, served_turns, status_of}
+use Rattle.tx_call.specs.Sitting.{Sitting}
+use Rattle.tx_call.proofs.HeardSoFar.{raised-both, raised-twice}
+
+heard : {S : Type 0} (m : Formatter S) (t : Sitting) (left left' : Option (List ℕ)) (events : List Event) → AreReadUpTo left events left' → AllMayCome m t events → AreHeard m t left events (unwrap_or left' [])
+heard m t None left' events read may_come = record { are_read = tt; may_come = may_come }
+heard m t (Some bytes) None events read may_come = absurd read
+heard m t (Some bytes) (Some rest) events read may_come = record { are_read = read; may_come = may_come }
+
+nothing-read : {S : Type 0} (m : Formatter S) (t : Sitting) (left : Option (List ℕ)) → AreHeard m t left [] (unwrap_or left [])
+nothing-read m t None = record { are_read = tt; may_come = tt }
+nothing-read m t (Some bytes) = record { are_read = requests.None; may_come = tt }
+
+module _ {S : Type 0} (m : Formatter S) (held : Held) {left : Option (List ℕ)} {before said after : Option Output} {steps steps_run steps' : ℕ} where
+  -- all of it was put out
+  pub served : {t' : Sitting} {left' : Option (List ℕ)} → said ≡ told before (first_piece (fresh m held).ran ∷ []) → steps_run ≡ raised steps (fresh m held).turns
+      → Heard m (begun held) t' left left' said after steps_run steps' → IsServed m held left before after steps steps'
+  served {left' = left'} line run so_far = record {
+    events = so_far.events;
+    rest = unwrap_or left' [];
+    heard = heard m (begun held) left left' so_far.events so_far.read so_far.may_come;
+    output_is = so_far.comes.output_is ∙ ap (λ o. told o (all_came m (begun held) so_far.events).pieces) line ∙ told-append before (first_piece (fresh m held).ran ∷ []) (all_came m (begun held) so_far.events).pieces;
+    most = raised-both steps steps_run steps' (fresh m held).turns _ (omega (arith, run)) so_far.comes.most;
+    steps_are = λ exact. raised-twice steps steps_run steps' (fresh m held).turns _ run (so_far.comes.steps_are exact);
+  }
+
+  pub served-to-the-end : {t' : Sitting} (status : ℕ) → said ≡ told before (first_piece (fresh m held).ran ∷ []) → steps_run ≡ raised steps (fresh m held).turns
+      → Heard m (begun held) t' left (Some []) said after steps_run steps' → status ≡ status_of m t' → IsServedToTheEnd m held left status before after steps steps'
+  served-to-the-end status line run so_far is = record {
+    so_far = served line run so_far;
+    over = refl;
+    status_is = is ∙ ap (status_of m) so_far.comes.sitting_is;
+  }
+
+  -- or the first of it
+  pub served-in-part : said ≡ told before (first_piece (fresh m held).ran ∷ []) → steps_run ≡ raised steps (fresh m held).turns
+      → HeardInPart m (begun held) left said after steps_run steps' → IsServedInPart m held left before after steps steps'
+  served-in-part line run so_far = record {
+    events = so_far.events;
+    rest = unwrap_or so_far.left' [];
+    heard = heard m (begun held) left so_far.left' so_far.events so_far.read so_far.may_come;
+    cut = cut-behind before (first_piece (fresh m held).ran ∷ []) (all_came m (begun held) so_far.events).pieces after
+        (subst (λ (o : Option Output). IsCutShort o (all_came m (begun held) so_far.events).pieces after) line so_far.comes.cut);
+    most = raised-both steps steps_run steps' (fresh m held).turns _ (omega (arith, run)) so_far.comes.most;
+  }
+
+  -- trouble came before anything came in: of the line, the first bytes were said
+  pub served-none : IsCutShort before (first_piece (fresh m held).ran ∷ []) after → steps' ≤ raised steps (fresh m held).turns → IsServedInPart m held left before after steps steps'
+  served-none cut most = record {
+    events = [];
+    rest = unwrap_or left [];
+    heard = nothing-read m (begun held) left;
+    cut = cut;
+    most = omega (arith, most);
+  }
+
+  -- trouble came before the run
+  pub served-nothing : after ≡ before → steps' ≡ steps → IsServedInPart m held left before after steps steps'
+  served-nothing same still =
+      served-none (subst (λ (o : Option Output). IsCutShort before (first_piece (fresh m held).ran ∷ []) o) (sym same) (cut-nothing before (first_piece (fresh m held).ran ∷ []))) (omega (arith, still))
+
+  -- what was put out whole is so in part
+  pub all-in-part : IsServed m held left before after steps steps' → IsServedInPart m held left before after steps steps'
+  all-in-part so_far = record {
+    events = so_far.events;
+    rest = so_far.rest;
+    heard = so_far.heard;
+    cut = record { whole = first_piece (fresh m held).ran ∷ (all_came m (begun held) so_far.events).pieces; left = []; are = sym (append-nil _); next = so_far.output_is };
+    most = so_far.most;
+  }
+
+  -- what a call leaves, by how it ended
+  pub leaves-all : (status : ℕ) → (status < 2) ⊎ (status ≡ 5) → IsServedToTheEnd m held left status before after steps steps' → ServeLeaves m held left status before after steps steps'
+  leaves-all status early all = record {
+    whole = λ _. all;
+    at_fault = λ three. inr all.so_far;
+    part = all-in-part all.so_far;
+  }
+
+  pub leaves-at-fault : IsServed m held left before after steps steps' → ServeLeaves m held left 3 before after steps steps'
+  leaves-at-fault so_far = record {
+    whole = λ early. absurd (⊎_elim (λ small. omega arith) (λ five. omega arith) early);
+    at_fault = λ _. inr so_far;
+    part = all-in-part so_far;
+  }
+
+  pub leaves-at-source : after ≡ before → steps' ≡ steps → ServeLeaves m held left 3 before after steps steps'
+  leaves-at-source same still = record {
+    whole = λ early. absurd (⊎_elim (λ small. omega arith) (λ five. omega arith) early);
+    at_fault = λ _. inl (same, still);
+    part = served-nothing same still;
+  }
+
+  pub leaves-in-part : (status : ℕ) → ((status < 2) ⊎ (status ≡ 5) → ⊥) → status ≢ 3 → IsServedInPart m held left before after steps steps' → ServeLeaves m held left status before after steps steps'
+  leaves-in-part status late no_fault part = record {
+    whole = λ early. absurd (late early);
+    at_fault = λ fault. absurd (no_fault fault);
+    part = part;
+  }
