@@ -1,7 +1,7 @@
-//! The program `vortex`: it hands the words of the command line, the current folder and standard output to the top call
-//! of `vortex_cmd`, or to the one that serves a document, with standard input too, which do all the rest, and ends with the answer
-//! as status. Where not all went well it then tells
-//! why on standard error, by what was said and by a second look at the words, the script and the faults of the folder.
+//! The program `vortex`: it hands the words of the command line, the current folder and standard output to the top call of
+//! `vortex_cmd`, which does all the rest, or, where the words ask to serve a document, these and standard input to the one that
+//! does so; and it ends with the answer as status. Where not all went well it then tells why on standard error, by what was said
+//! and by a second look at the words, the script and the faults of the folder.
 //!
 //! Read `arguments`, then `look`, the second look, of which `tx_causes` makes words, and `serving`.
 #![tactic(auto)]
