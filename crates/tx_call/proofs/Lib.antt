@@ -13,3 +13,4 @@ pub mod Answering
 pub mod HeardSoFar
 pub mod ServedFiles
 pub mod Changing
+pub mod RequestBounds

@@ -18,10 +18,14 @@ use Rattle.tx_call.specs.declared.trouble.Break.{Break}
 use Rattle.tx_call.specs.declared.trouble.Break.TheVariants as breaks
 use Rattle.tx_call.specs.Answers.{Event, read_as, all_came, begun, AllMayCome, AreExact}
 use Rattle.tx_call.specs.Hearing.{AreReadUpTo, Heard, HeardInPart, ServesFiles}
-use Rattle.tx_call.specs.Outcome.{first_piece}
+use Rattle.tx_words.specs.declared.given.Asked.{Asked}
+use Rattle.tx_words.specs.declared.given.Asked.TheVariants.{Serve}
+use Rattle.tx_words.specs.declared.given.Serving.{Serving}
+use Rattle.tx_call.specs.Outcome.{first_piece, ForHeld}
 use Rattle.tx_call.specs.Replay.{status_after}
-use Rattle.tx_call.specs.Serving.{AreHeard, IsServed, IsServedInPart, IsServedToTheEnd, ServeLeaves, served_turns, status_of}
+use Rattle.tx_call.specs.Serving.{AreHeard, AsksForNone, ForServing, IsServed, IsServedInPart, IsServedToTheEnd, ServeLeaves, served_turns, status_of}
 use Rattle.tx_call.specs.Sitting.{Sitting}
+use Rattle.tx_call.proofs.Held.{for_held}
 use Rattle.tx_call.proofs.HeardSoFar.{raised-both, raised-twice}
 
 heard : {S : Type 0} (m : Formatter S) (t : Sitting) (left left' : Option (List ℕ)) (events : List Event) → AreReadUpTo left events left' → AllMayCome m t events → AreHeard m t left events (unwrap_or left' [])
@@ -119,3 +123,24 @@ module _ {S : Type 0} (m : Formatter S) (held : Held) {left : Option (List ℕ)}
     at_fault = λ fault. absurd (no_fault fault);
     part = part;
   }
+
+  pub leaves-by-inlet : (e : Break) → e ≡ breaks.Inlet → ServesFiles m held left (Err e) before after steps steps' → ServeLeaves m held left 3 before after steps steps'
+  leaves-by-inlet e is serves = leaves-at-fault (subst (λ (x : Break). ServesFiles m held left (Err x) before after steps steps') is serves)
+
+  pub leaves-by-trouble : (e : Break) (trouble : Trouble) (status : ℕ) → e ≡ breaks.Trouble trouble → ((status < 2) ⊎ (status ≡ 5) → ⊥) → status ≢ 3 → ServesFiles m held left (Err e) before after steps steps'
+      → ServeLeaves m held left status before after steps steps'
+  leaves-by-trouble e trouble status is late no_fault serves = leaves-in-part status late no_fault (subst (λ (x : Break). ServesFiles m held left (Err x) before after steps steps') is serves)
+
+-- what is so of the files that a source holds is so of the words that ask to serve them
+pub served-words : (asked : Asked) (holds : Option Files) {IsSo IsThen : Serving → Files → Type 0} → ForServing asked (λ serving. ForHeld holds (IsSo serving))
+    → ((serving : Serving) → asked ≡ Serve serving → (files : Files) → IsSo serving files → IsThen serving files) → ForServing asked (λ serving. ForHeld holds (IsThen serving))
+served-words asked holds some then = λ serving is. for_held (some serving is) (then serving is)
+
+-- words that ask for something else leave nothing to be said of those that serve
+pub serves-none : (asked : Asked) {IsSo : Serving → Type 0} → AsksForNone asked → ForServing asked IsSo
+serves-none asked none = λ serving is. absurd (none (serving, is))
+
+-- where all was answered, the status of words that ask to serve isn't that of a refusal
+pub early : (asked : Asked) (serving : Serving) → asked ≡ Serve serving → (status : ℕ) → (status ≤ 2) ⊎ (status ≡ 5) → (status ≡ 2 → AsksForNone asked) → (status < 2) ⊎ (status ≡ 5)
+early asked serving is status (inl small) refused = inl (omega (arith, small, λ (two : status ≡ 2). refused two (serving, is)))
+early asked serving is status (inr five) refused = inr five
