@@ -9,7 +9,8 @@ use Rattle.tx_script.specs.declared.command.Command.TheVariants.{Change as Lone,
 use Rattle.tx_session.specs.Held.{Held, fresh, changed_session}
 use Rattle.tx_session.specs.Report.{report, turns_of_changes}
 use Rattle.tx_session.specs.Standing.{Standing, now, settled, report_since, turns_since}
-use Rattle.tx_session.proofs.Standings.{now-next_standing, report_since-settled, turns_since-settled}
+use Rattle.tx_session.proofs.Standings.{now-next_standing}
+use Rattle.tx_call.proofs.NoChanges.{report_since-settled, turns_since-settled}
 use Rattle.tx_call.specs.Answers.{AgreesWithScript, most_changes}
 use Rattle.tx_call.specs.Lines.{edit_line}
 use Rattle.tx_call.specs.Replay as script

@@ -8,6 +8,7 @@ pub mod Held
 pub mod Chains
 pub mod SaidLines
 pub mod Dvi
+pub mod NoChanges
 pub mod Agreeing
 pub mod Answering
 pub mod HeardSoFar
