@@ -9,7 +9,7 @@ use Rattle.tx_script.specs.declared.command.Command.{Command as ScriptCommand}
 use Rattle.tx_script.specs.declared.command.Command.TheVariants.{Change as Lone, Batch, Save as SaveAs, Locate}
 use Rattle.tx_request.specs.declared.request.Request.{Request}
 use Rattle.tx_request.specs.declared.request.Request.TheVariants.{Command, File, Page, Log, LogOf}
-use Rattle.tx_session.specs.Standing.{Standing, now, settled, keeps, made_of, next_standing, work_since, turns_since}
+use Rattle.tx_session.specs.Standing.{Standing, now, settled, keeps, kept, made_of, next_standing, work_since, turns_since}
 use Rattle.tx_call.specs.Answers.{Event, Answered, Wanting, Unread, answer_to, all_came, came, contents_changes, most_changes}
 use Rattle.tx_call.specs.Sitting.{Sitting, effect}
 use Rattle.tx_call.proofs.TurnBounds.{most_of, work-most}
@@ -55,16 +55,16 @@ module _ {S : Type 0} (m : Formatter S) (lawful : IsLawful m) where
   came-most t (Unread rule) = omega arith
 
   -- and the limits stay
-  made-limits : (t : Standing) (changes : List Change) → (made_of m most_changes t changes).base.limits ≡ t.base.limits
-  made-limits t [] = refl
-  made-limits t (c ∷ changes) = by (keeps m most_changes after)
+  kept-limits : (t : Standing) → (kept m most_changes t).base.limits ≡ t.base.limits
+  kept-limits t = by (keeps m most_changes t)
     where
-      abbrev after : Standing
-      after = record t { since = t.since ++ c ∷ changes }
-
-      by : (kept : Bool) → (cond kept after (settled (now after))).base.limits ≡ t.base.limits
+      by : (stays : Bool) → (cond stays t (settled (now t))).base.limits ≡ t.base.limits
       by true = refl
       by false = refl
+
+  made-limits : (t : Standing) (changes : List Change) → (made_of m most_changes t changes).base.limits ≡ t.base.limits
+  made-limits t [] = refl
+  made-limits t (c ∷ changes) = kept-limits (record t { since = t.since ++ c ∷ changes })
 
   next-limits : (t : Standing) (changes : List Change) → (next_standing m most_changes t changes).base.limits ≡ t.base.limits
   next-limits t changes = by (all_fit (now t).files changes)

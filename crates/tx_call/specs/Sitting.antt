@@ -100,7 +100,7 @@ pub record ComesToNothing (e : Effect) (before after : Sitting) (output output' 
   pub most : steps' ≤ raised steps e.turns
 
 -- how a command went
-abbrev pub Steps : Result Stepped Trouble → Effect → Sitting → Sitting → Option Output → Option Output → ℕ → ℕ → Type 0
-Steps (Ok Done) e before after output output' steps steps' = Comes e after output output' steps steps'
-Steps (Ok Wanting) e before after output output' steps steps' = ComesToNothing e before after output output' steps steps'
-Steps (Err trouble) e before after output output' steps steps' = ComesInPart e output output' steps steps'
+abbrev pub Goes : Result Stepped Trouble → Effect → Sitting → Sitting → Option Output → Option Output → ℕ → ℕ → Type 0
+Goes (Ok Done) e before after output output' steps steps' = Comes e after output output' steps steps'
+Goes (Ok Wanting) e before after output output' steps steps' = ComesToNothing e before after output output' steps steps'
+Goes (Err trouble) e before after output output' steps steps' = ComesInPart e output output' steps steps'

@@ -1,5 +1,5 @@
 //! The answers of a document that is served, each to one request.
-ghost use Rattle.std.specs.Prelude.{◌≡◌, ◌∷◌, [], ◌+◌, ◌<◌, ◌≤◌, ◌⊎◌, ◌^◌, option_map, IfOk, OnOk};
+ghost use Rattle.std.specs.Prelude.{◌≡◌, ◌∷◌, [], false, ◌+◌, ◌<◌, ◌≤◌, ◌⊎◌, ◌^◌, option_map, IfOk, OnOk};
 ghost use Rattle.tx_io.specs.Output.{Say};
 ghost use Rattle.tx_session.specs.Held.{fresh};
 ghost use Rattle.tx_session.specs.Pages.{page_of, piece_of};
@@ -7,7 +7,7 @@ ghost use Rattle.tx_session.specs.Standing.{now};
 ghost use Rattle.tx_call.specs.Answers.{changes_of, most_changes, saved_answer};
 ghost use Rattle.tx_call.specs.Hearing.{Answers};
 ghost use Rattle.tx_call.specs.Lines.{bytes_text as text_of_bytes, log_head, memory_line as memory_text, page_head as head_of_page, page_memory_line as page_memory_text};
-ghost use Rattle.tx_call.specs.Sitting.{Steps, edit_effect};
+ghost use Rattle.tx_call.specs.Sitting.{Goes, edit_effect};
 ghost use Rattle.tx_call.specs.Tally.{sitting};
 ghost use Rattle.tx_call.specs.Trouble.{PutsOut, SinkCauses};
 
@@ -81,7 +81,7 @@ fn put_edit<M: Machine, K: Sink>(
     steps: &mut Steps,
 ) -> Result<Stepped, Trouble>
     requires { tally.old.edits + 1 < 2 ^ 64 }
-    ensures steps { Steps result (edit_effect M.formatter most_changes (sitting live.old tally.old) false (changes_of edit)) (sitting live.old tally.old) (sitting live.new tally.new) (K.output sink.old) (K.output sink.new) steps.old steps.new }
+    ensures goes { Goes result (edit_effect M.formatter most_changes (sitting live.old tally.old) false (changes_of edit)) (sitting live.old tally.old) (sitting live.new tally.new) (K.output sink.old) (K.output sink.new) steps.old steps.new }
     ensures edits { OnOk result (tally.new.edits ≤ tally.old.edits + 1) }
     ensures places { OnOk result (tally.new.places ≡ tally.old.places) }
     ensures causes { SinkCauses result (K.faults sink.old) (K.faults sink.new) }

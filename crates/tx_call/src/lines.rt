@@ -256,7 +256,11 @@ pub fn page_memory_line(alloc: Global, number: u64) -> Result<Bytes, AllocError>
 
 /// Bytes behind such a beginning: `N bytes` and LF, and these and LF; or `none` and LF.
 #[tactic(auto, unfolding(crate::specs::Lines::bytes_text))]
-pub fn bytes_text(alloc: Global, head: &[u8], bytes: Option<&[u8]>) -> Result<Bytes, AllocError>
+pub fn bytes_text<'a>(
+    alloc: Global,
+    head: &'a [u8],
+    bytes: Option<&'a [u8]>,
+) -> Result<Bytes, AllocError>
     ensures { IfOk result (λ text. text ≡ bytes_text head.now (option_map (λ b. b.now) bytes.entry)) }
 {
     match bytes {

@@ -6,7 +6,7 @@ ghost use Rattle.tx_session.specs.Held.{fresh};
 ghost use Rattle.tx_session.specs.Standing.{now};
 ghost use Rattle.tx_call.specs.Lines.{edit_line as made_line};
 ghost use Rattle.tx_call.specs.Replay.{IsEdit, refused_line};
-ghost use Rattle.tx_call.specs.Sitting.{Steps, edit_effect, effect};
+ghost use Rattle.tx_call.specs.Sitting.{Goes, edit_effect, effect};
 ghost use Rattle.tx_call.specs.Tally.{sitting};
 ghost use Rattle.tx_call.specs.Trouble.{PutsOut, SinkCauses};
 
@@ -91,7 +91,7 @@ pub fn make_changes<M: Machine, D: Document<M>, K: Sink>(
     steps: &mut Steps,
 ) -> Result<Stepped, Trouble>
     requires { tally.old.edits + 1 < 2 ^ 64 }
-    ensures steps { Steps result (edit_effect M.formatter D.longest (sitting (D.standing document.old) tally.old) together changes.now) (sitting (D.standing document.old) tally.old) (sitting (D.standing document.new) tally.new) (K.output sink.old) (K.output sink.new) steps.old steps.new }
+    ensures goes { Goes result (edit_effect M.formatter D.longest (sitting (D.standing document.old) tally.old) together changes.now) (sitting (D.standing document.old) tally.old) (sitting (D.standing document.new) tally.new) (K.output sink.old) (K.output sink.new) steps.old steps.new }
     ensures edits { OnOk result (tally.new.edits ≤ tally.old.edits + 1) }
     ensures places { OnOk result (tally.new.places ≡ tally.old.places) }
     ensures causes { SinkCauses result (K.faults sink.old) (K.faults sink.new) }
@@ -124,7 +124,7 @@ pub fn step<M: Machine, D: Document<M>, K: Sink>(
 ) -> Result<Stepped, Trouble>
     requires room { tally.old.edits + 1 < 2 ^ 64 }
     requires places_room { tally.old.places + 1 < 2 ^ 64 }
-    ensures steps { Steps result (effect M.formatter D.longest (sitting (D.standing document.old) tally.old) command.now) (sitting (D.standing document.old) tally.old) (sitting (D.standing document.new) tally.new) (K.output sink.old) (K.output sink.new) steps.old steps.new }
+    ensures goes { Goes result (effect M.formatter D.longest (sitting (D.standing document.old) tally.old) command.now) (sitting (D.standing document.old) tally.old) (sitting (D.standing document.new) tally.new) (K.output sink.old) (K.output sink.new) steps.old steps.new }
     ensures edits { OnOk result (tally.new.edits ≤ tally.old.edits + 1) }
     ensures places { OnOk result (tally.new.places ≤ tally.old.places + 1) }
     ensures wanting { IfOk result (λ stepped. stepped ≡ Stepped.Wanting → IsEdit command.now) }
