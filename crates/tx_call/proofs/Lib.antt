@@ -8,3 +8,10 @@ pub mod Held
 pub mod Chains
 pub mod SaidLines
 pub mod Dvi
+pub mod NoChanges
+pub mod Agreeing
+pub mod Answering
+pub mod HeardSoFar
+pub mod ServedFiles
+pub mod Changing
+pub mod RequestBounds

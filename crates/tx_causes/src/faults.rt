@@ -30,7 +30,7 @@ fn kind_text(kind: ErrorKind) -> Option<&'static str> {
 }
 
 /// Writes an error of the system in words.
-fn write_error(text: &mut String, error: &io::Error) -> Result<(), AllocError> {
+pub fn write_error(text: &mut String, error: &io::Error) -> Result<(), AllocError> {
     match kind_text(error.kind()) {
         Some(words) => text.push_str(words),
         None => write!(text, "{error}"),
