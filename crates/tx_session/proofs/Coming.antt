@@ -167,10 +167,10 @@ module _ {S M : Type 0} {m : Formatter M} {meaning : S → M} {pending : S → L
     end_is : end_of later.further ≡ behind_it.last.end
     end_is = end-last changes made.rows.last later.further ∙ ap (λ last. last.end) tells.last
 
-    pub keeps-told : {count : ℕ} → count ≡ length changes → (is_whole made.rows.last.end && is_cut (end_of later.further) && nat_le count 1000) ≡ keeps m 1000 (record { base = before; since = changes })
-    keeps-told count_is =
+    pub keeps-told : (is_whole made.rows.last.end && is_cut (end_of later.further) && nat_le (length changes) 1000) ≡ keeps m 1000 (record { base = before; since = changes })
+    keeps-told =
         let ends : end_of later.further ≡ (fresh m (now (record { base = before; since = changes }))).ran.end = end_is ∙ sym (ap (λ h. h.last.end) now_is) ∙ fresh_end in
-        λ i. is_whole (shown-end led.shows i) && is_cut (ends i) && nat_le (count_is i) 1000
+        λ i. is_whole (shown-end led.shows i) && is_cut (ends i) && nat_le (length changes) 1000
 
     -- it is taken over
     module _ {new : Made S} (idle : LaterIsIdle m meaning pending later) (are : AreReused changes made.rows kept later new.rows)
@@ -196,9 +196,9 @@ module _ {S M : Type 0} {m : Formatter M} {meaning : S → M} {pending : S → L
       taken-report stay = ap (report_of (length new.rows.pages.items) kept) count_is ∙ report-on led.shows changes led.fits led.led stay new taken-shows
 
     -- or it meets the run before nowhere
-    module _ {count : ℕ} (kept_so : (is_whole made.rows.last.end && is_cut (end_of later.further) && nat_le count 1000) ≡ true) where
+    module _ (kept_so : (is_whole made.rows.last.end && is_cut (end_of later.further) && nat_le (length changes) 1000) ≡ true) where
       ends_so : (is_whole made.rows.last.end ≡ true) × (is_cut (end_of later.further) ≡ true)
-      ends_so = kept-parts (is_whole made.rows.last.end) (is_cut (end_of later.further)) (nat_le count 1000) kept_so
+      ends_so = kept-parts (is_whole made.rows.last.end) (is_cut (end_of later.further)) (nat_le (length changes) 1000) kept_so
 
       none : its_meeting led.shows changes led.fits led.led ≡ None
       none = unmet m held.files changes (start_of m held.main held.date) held.limits.budget (held.limits.pages - kept) old (run_behind m held.files (rows_in old.pages) kept held.main held.date held.limits)

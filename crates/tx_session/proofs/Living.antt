@@ -113,7 +113,7 @@ shows-live-same new shows same said = record {
 
 -- changes that were made of the files
 module _ {S M : Type 0} {m : Formatter M} {meaning : S → M} {pending : S → List ℕ} {held : Held} {made : Made S} {earlier : Option (Earlier S)} (shows : ShowsLive m meaning pending held made earlier)
-    {files : Files} {changes all : List Change} (fit : all_fit held.files changes ≡ true) (few : AreSmall held.files changes) (changed : files ≡ all_changed held.files changes)
+    (files : Files) (changes all : List Change) (fit : all_fit held.files changes ≡ true) (few : AreSmall held.files changes) (changed : files ≡ all_changed held.files changes)
     (all_is : all ≡ since_of earlier ++ changes) where
   abbrev t : Standing
   t = standing_of held earlier
@@ -149,7 +149,7 @@ module _ {S M : Type 0} {m : Formatter M} {meaning : S → M} {pending : S → L
     settled-now lets_go = sym (made-settled m 1000 t changes some (keeps-now ∙ lets_go) ∙ ap settled now-next)
 
     -- or it is
-    module _ {e : Earlier S} (files_is : e.files ≡ base) (since_is : e.since ≡ all) (keeps_it : keeps m 1000 (record { base = with_files after base; since = all }) ≡ true) where
+    module _ (e : Earlier S) (files_is : e.files ≡ base) (since_is : e.since ≡ all) (keeps_it : keeps m 1000 (record { base = with_files after base; since = all }) ≡ true) where
       pub kept-now : standing_of after (Some e) ≡ made_of m 1000 t changes
       kept-now = (λ i. record { base = with_files held (files_is i); since = (since_is ∙ all_is) i }) ∙ sym (made-kept m 1000 t changes some (keeps-now ∙ keeps_it))
 
