@@ -21,17 +21,16 @@ use Rattle.tx_quiesce.specs.Limits.{is_page_limit}
 use Rattle.tx_quiesce.specs.Meeting.{Meeting}
 use Rattle.tx_quiesce.specs.Moves.{carried_row, carried_opens}
 use Rattle.tx_quiesce.specs.Shift.{end_now}
-use Rattle.tx_quiesce.specs.Reuse.{moved, moved_begun, rest_of, further, reused_by, reused_rows, meeting_behind, made_behind, made_after}
+use Rattle.tx_quiesce.specs.Reuse.{moved, moved_begun, rest_of, further, reused_by, reused_rows, meeting_behind, made_behind}
 use Rattle.tx_quiesce.proofs.Carried.{LaterTells, later-tells, reused-rows, reused-idle}
 use Rattle.tx_session.specs.declared.kept.Cut.{Cut}
-use Rattle.tx_session.specs.declared.kept.Earlier.{Earlier}
 use Rattle.tx_session.specs.declared.kept.Made.{Made}
-use Rattle.tx_session.specs.Cut.{end_of, base_of, since_of, standing_of, are_small, IsLed, IsCut, IsKept, ShowsLive}
+use Rattle.tx_session.specs.Cut.{end_of, are_small, IsLed, IsCut}
 use Rattle.tx_session.specs.Held.{Held, fresh, rows_of, joined_with, with_files}
-use Rattle.tx_session.specs.Made.{last_piece, pieces_after, IsSaid}
+use Rattle.tx_session.specs.Made.{last_piece, pieces_after}
 use Rattle.tx_session.specs.Report.{report_of, report, work}
 use Rattle.tx_session.specs.Shows.{Shows}
-use Rattle.tx_session.specs.Standing.{Standing, now, is_whole, is_cut, keeps}
+use Rattle.tx_session.specs.Standing.{now, is_whole, is_cut, keeps}
 use Rattle.tx_session.proofs.Saying.{last-said, is-said}
 use Rattle.tx_session.proofs.Showing.{fresh-tells, shown-end, kept-rows, one-length, remade, its_meeting, meeting_told, told_is, many, reused-told, reused-within, report-told, report-on, shows-still, work-on}
 use Rattle.tx_session.proofs.Standings.{all_changed-append, all_fit-append, are_small-append, both-true, small-told, whole-not-cut}

@@ -1,4 +1,4 @@
-use Rattle.std.proofs.Common.{◌≡◌, ◌≤◌, ◌<◌, ◌+◌, ◌^◌, length, sym, ap, subst, ◌∙◌, arith, refl}
+use Rattle.std.proofs.Common.{◌≤◌, ◌<◌, ◌+◌, ◌^◌, length, sym, ap, subst, ◌∙◌, arith, refl}
 use Rattle.std.specs.Prelude.{IfSome}
 use Rattle.tx_machine.specs.Steps.{raised}
 use Rattle.tx_machine.proofs.Going.{raised-zero}
@@ -8,7 +8,7 @@ use Rattle.tx_quiesce.specs.Further.{CanReuse}
 use Rattle.tx_quiesce.specs.Later.{AreReused}
 use Rattle.tx_quiesce.specs.Meeting.{Meeting}
 use Rattle.tx_quiesce.specs.Reuse.{meeting_behind}
-use Rattle.tx_session.specs.Held.{Held, held_of, rows_of, joined_with}
+use Rattle.tx_session.specs.Held.{held_of, rows_of, joined_with}
 use Rattle.tx_session.specs.Made.{pieces_after, last_piece}
 use Rattle.tx_session.specs.Report.{report_of}
 use Rattle.tx_session.proofs.Coming.{IsToldAt, told-at, settled-still, keeps-told, has-no-page, is-cut, report-cut, turns-on, taken-shows, taken-report}

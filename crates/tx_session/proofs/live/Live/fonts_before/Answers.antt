@@ -1,4 +1,4 @@
-use Rattle.std.proofs.Common.{◌≡◌, ◌≤◌, ◌-◌, ◌++◌, List, length, take, sym, ap, ◌∙◌, arith}
+use Rattle.std.proofs.Common.{◌-◌, ◌++◌, List, length, take, sym, ap, ◌∙◌, arith}
 use Rattle.tx_dvi.specs.declared.font.FontDefinition.{FontDefinition}
 use Rattle.tx_dvi.specs.Dvi.{fonts_of}
 use Rattle.tx_dvi.specs.Page.{Page}

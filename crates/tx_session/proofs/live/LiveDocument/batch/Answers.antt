@@ -1,4 +1,4 @@
-use Rattle.std.proofs.Common.{◌≡◌, ◌≤◌, Option, Some, None, sym, ap, subst, ◌∙◌}
+use Rattle.std.proofs.Common.{◌≡◌, ◌≤◌, Option, Some, sym, ap, subst, ◌∙◌}
 use Rattle.tx_bytes.specs.Files.{Files}
 use Rattle.tx_files.specs.TakenBack.{taken_back}
 use Rattle.tx_machine.specs.Steps.{raised}
@@ -41,8 +41,8 @@ invariant_of-self-in-Ok-Settled g c =
     let all_is = c.as_slice.ensures ∙ c.in-Ok.ensures in
     let led = led-now c.self.invariant files changes all before.answer.0 before.small before.ok all_is in
     let settled : IsSettled m g.M.Machine.meaning g.M.Machine.pending base after all c.make.new.made c.in-Ok-Settled.report =
-    subst (λ (come : Come _). HasCome m g.M.Machine.meaning g.M.Machine.pending base after all inside.made c.make.new.made come) c.in-Ok-Settled.field-0-is (c.in-Ok-Settled.ensures.come base led) in
-    subst (λ (earlier : Option (Earlier _)). ShowsLive m g.M.Machine.meaning g.M.Machine.pending after c.make.new.made earlier) (sym c.replace.ensures.after) (shows-alone settled.shows)
+    subst (λ (come : Come g.row.M-State.Denot). HasCome m g.M.Machine.meaning g.M.Machine.pending base after all inside.made c.make.new.made come) c.in-Ok-Settled.field-0-is (c.in-Ok-Settled.ensures.come base led) in
+    subst (λ (earlier : Option (Earlier g.row.M-State.Denot)). ShowsLive m g.M.Machine.meaning g.M.Machine.pending after c.make.new.made earlier) (sym c.replace.ensures.after) (shows-alone settled.shows)
 
 pub returns-in-Ok-Settled-clause-made : goal.returns-in-Ok-Settled-clause-made
 returns-in-Ok-Settled-clause-made g c =
@@ -59,8 +59,8 @@ returns-in-Ok-Settled-clause-made g c =
     let some = not-none c.is_empty.ensures c.if-is_empty.false in
     let led = led-now c.self.invariant files changes all before.answer.0 before.small before.ok all_is in
     let settled : IsSettled m g.M.Machine.meaning g.M.Machine.pending base after all c.make.new.made c.in-Ok-Settled.report =
-    subst (λ (come : Come _). HasCome m g.M.Machine.meaning g.M.Machine.pending base after all inside.made c.make.new.made come) c.in-Ok-Settled.field-0-is (c.in-Ok-Settled.ensures.come base led) in
-    ap (λ (earlier : Option (Earlier _)). standing_of after earlier) c.replace.ensures.after ∙ settled-now c.self.invariant files changes all before.answer.0 before.small before.ok all_is some settled.lets_go
+    subst (λ (come : Come g.row.M-State.Denot). HasCome m g.M.Machine.meaning g.M.Machine.pending base after all inside.made c.make.new.made come) c.in-Ok-Settled.field-0-is (c.in-Ok-Settled.ensures.come base led) in
+    ap (λ (earlier : Option (Earlier g.row.M-State.Denot)). standing_of after earlier) c.replace.ensures.after ∙ settled-now c.self.invariant files changes all before.answer.0 before.small before.ok all_is some settled.lets_go
     ∙ ap (λ (t : Standing). made_of m 1000 t changes) c.self.view_is
 
 pub returns-in-Ok-Settled-clause-report : goal.returns-in-Ok-Settled-clause-report
@@ -78,7 +78,7 @@ returns-in-Ok-Settled-clause-report g c =
     let some = not-none c.is_empty.ensures c.if-is_empty.false in
     let led = led-now c.self.invariant files changes all before.answer.0 before.small before.ok all_is in
     let settled : IsSettled m g.M.Machine.meaning g.M.Machine.pending base after all c.make.new.made c.in-Ok-Settled.report =
-    subst (λ (come : Come _). HasCome m g.M.Machine.meaning g.M.Machine.pending base after all inside.made c.make.new.made come) c.in-Ok-Settled.field-0-is (c.in-Ok-Settled.ensures.come base led) in
+    subst (λ (come : Come g.row.M-State.Denot). HasCome m g.M.Machine.meaning g.M.Machine.pending base after all inside.made c.make.new.made come) c.in-Ok-Settled.field-0-is (c.in-Ok-Settled.ensures.come base led) in
     settled.report_is ∙ report-now c.self.invariant files changes all before.answer.0 before.small before.ok all_is some ∙ ap (λ (t : Standing). report_since m t changes) c.self.view_is
 
 pub returns-in-Ok-Settled-clause-counted : goal.returns-in-Ok-Settled-clause-counted
@@ -129,12 +129,12 @@ invariant_of-self-in-Ok-Beside g c =
     let some = not-none c.is_empty.ensures c.if-is_empty.false in
     let led = led-now c.self.invariant files changes all before.answer.0 before.small before.ok all_is in
     let beside : IsBeside m g.M.Machine.meaning base after all inside.made c.make.new.made c.in-Ok-Beside.report c.in-Ok-Beside.cut =
-    subst (λ (come : Come _). HasCome m g.M.Machine.meaning g.M.Machine.pending base after all inside.made c.make.new.made come) c.in-Ok-Beside.field-0-is (c.in-Ok-Beside.ensures.come base led) in
+    subst (λ (come : Come g.row.M-State.Denot). HasCome m g.M.Machine.meaning g.M.Machine.pending base after all inside.made c.make.new.made come) c.in-Ok-Beside.field-0-is (c.in-Ok-Beside.ensures.come base led) in
     let kept = c.in_ok-keep-in-Ok-Beside.ensures in
-    let e : Earlier _ = record { files = base_of (taken_back files c.in_ok-before.before) inside.earlier; since = c.in-Ok.all; cut = c.in-Ok-Beside.cut } in
+    let e : Earlier g.row.M-State.Denot = record { files = base_of (taken_back files c.in_ok-before.before) inside.earlier; since = c.in-Ok.all; cut = c.in-Ok-Beside.cut } in
     let files_is : e.files ≡ base = ap (λ (f : Files). base_of f inside.earlier) before.back in
     let since_is : e.since ≡ all = sym c.as_slice.ensures in
-    subst (λ (earlier : Option (Earlier _)). ShowsLive m g.M.Machine.meaning g.M.Machine.pending (with_files held c.keep.new.files) c.make.new.made earlier) (sym kept.kept)
+    subst (λ (earlier : Option (Earlier g.row.M-State.Denot)). ShowsLive m g.M.Machine.meaning g.M.Machine.pending (with_files held c.keep.new.files) c.make.new.made earlier) (sym kept.kept)
     (subst (λ (f : Files). ShowsLive m g.M.Machine.meaning g.M.Machine.pending (with_files held f) c.make.new.made (Some e)) (sym kept.now)
     (kept-shows c.self.invariant files changes all before.answer.0 before.small before.ok all_is some e files_is since_is beside.keeps_it beside.same beside.cut_is))
 
@@ -153,9 +153,9 @@ returns-in_ok-keep-in-Ok-Beside-clause-made g c =
     let some = not-none c.is_empty.ensures c.if-is_empty.false in
     let led = led-now c.self.invariant files changes all before.answer.0 before.small before.ok all_is in
     let beside : IsBeside m g.M.Machine.meaning base after all inside.made c.make.new.made c.in-Ok-Beside.report c.in-Ok-Beside.cut =
-    subst (λ (come : Come _). HasCome m g.M.Machine.meaning g.M.Machine.pending base after all inside.made c.make.new.made come) c.in-Ok-Beside.field-0-is (c.in-Ok-Beside.ensures.come base led) in
+    subst (λ (come : Come g.row.M-State.Denot). HasCome m g.M.Machine.meaning g.M.Machine.pending base after all inside.made c.make.new.made come) c.in-Ok-Beside.field-0-is (c.in-Ok-Beside.ensures.come base led) in
     let kept = c.in_ok-keep-in-Ok-Beside.ensures in
-    let e : Earlier _ = record { files = base_of (taken_back files c.in_ok-before.before) inside.earlier; since = c.in-Ok.all; cut = c.in-Ok-Beside.cut } in
+    let e : Earlier g.row.M-State.Denot = record { files = base_of (taken_back files c.in_ok-before.before) inside.earlier; since = c.in-Ok.all; cut = c.in-Ok-Beside.cut } in
     let files_is : e.files ≡ base = ap (λ (f : Files). base_of f inside.earlier) before.back in
     let since_is : e.since ≡ all = sym c.as_slice.ensures in
     (λ i. standing_of (with_files held (kept.now i)) (kept.kept i)) ∙ kept-now c.self.invariant files changes all before.answer.0 before.small before.ok all_is some e files_is since_is beside.keeps_it
@@ -176,7 +176,7 @@ returns-in_ok-keep-in-Ok-Beside-clause-report g c =
     let some = not-none c.is_empty.ensures c.if-is_empty.false in
     let led = led-now c.self.invariant files changes all before.answer.0 before.small before.ok all_is in
     let beside : IsBeside m g.M.Machine.meaning base after all inside.made c.make.new.made c.in-Ok-Beside.report c.in-Ok-Beside.cut =
-    subst (λ (come : Come _). HasCome m g.M.Machine.meaning g.M.Machine.pending base after all inside.made c.make.new.made come) c.in-Ok-Beside.field-0-is (c.in-Ok-Beside.ensures.come base led) in
+    subst (λ (come : Come g.row.M-State.Denot). HasCome m g.M.Machine.meaning g.M.Machine.pending base after all inside.made c.make.new.made come) c.in-Ok-Beside.field-0-is (c.in-Ok-Beside.ensures.come base led) in
     beside.report_is ∙ report-now c.self.invariant files changes all before.answer.0 before.small before.ok all_is some ∙ ap (λ (t : Standing). report_since m t changes) c.self.view_is
 
 pub returns-in_ok-keep-in-Ok-Beside-clause-counted : goal.returns-in_ok-keep-in-Ok-Beside-clause-counted
@@ -226,11 +226,11 @@ invariant_of-self-in_err-keep-in-Ok-Beside g c =
     let all_is = c.as_slice.ensures ∙ c.in-Ok.ensures in
     let led = led-now c.self.invariant files changes all before.answer.0 before.small before.ok all_is in
     let beside : IsBeside m g.M.Machine.meaning base after all inside.made c.make.new.made c.in-Ok-Beside.report c.in-Ok-Beside.cut =
-    subst (λ (come : Come _). HasCome m g.M.Machine.meaning g.M.Machine.pending base after all inside.made c.make.new.made come) c.in-Ok-Beside.field-0-is (c.in-Ok-Beside.ensures.come base led) in
+    subst (λ (come : Come g.row.M-State.Denot). HasCome m g.M.Machine.meaning g.M.Machine.pending base after all inside.made c.make.new.made come) c.in-Ok-Beside.field-0-is (c.in-Ok-Beside.ensures.come base led) in
     let err = c.in_err-keep-in-Ok-Beside.ensures.err in
     let same : c.keep.new.files ≡ inside.files = err.0 ∙ before.back in
-    subst (λ (earlier : Option (Earlier _)). ShowsLive m g.M.Machine.meaning g.M.Machine.pending (with_files held c.keep.new.files) c.make.new.made earlier) (sym err.1)
-    (subst (λ (made : Made _). ShowsLive m g.M.Machine.meaning g.M.Machine.pending (with_files held c.keep.new.files) made inside.earlier) (sym beside.same) (restored c.self.invariant same))
+    subst (λ (earlier : Option (Earlier g.row.M-State.Denot)). ShowsLive m g.M.Machine.meaning g.M.Machine.pending (with_files held c.keep.new.files) c.make.new.made earlier) (sym err.1)
+    (subst (λ (made : Made g.row.M-State.Denot). ShowsLive m g.M.Machine.meaning g.M.Machine.pending (with_files held c.keep.new.files) made inside.earlier) (sym beside.same) (restored c.self.invariant same))
 
 pub returns-in_err-keep-in-Ok-Beside-clause-refused : goal.returns-in_err-keep-in-Ok-Beside-clause-refused
 returns-in_err-keep-in-Ok-Beside-clause-refused g c =
@@ -239,7 +239,7 @@ returns-in_err-keep-in-Ok-Beside-clause-refused g c =
     let err = c.in_err-keep-in-Ok-Beside.ensures.err in
     let same : c.keep.new.files ≡ inside.files = err.0 ∙ c.in_ok-before.ensures.back in
     err-so c.from_residual-in_err-keep-in-Ok-Beside.result
-    (ap (λ (earlier : Option (Earlier _)). standing_of (with_files held c.keep.new.files) earlier) err.1 ∙ restored-standing c.self.invariant same ∙ c.self.view_is)
+    (ap (λ (earlier : Option (Earlier g.row.M-State.Denot)). standing_of (with_files held c.keep.new.files) earlier) err.1 ∙ restored-standing c.self.invariant same ∙ c.self.view_is)
 
 pub returns-in_err-keep-in-Ok-Beside-clause-most : goal.returns-in_err-keep-in-Ok-Beside-clause-most
 returns-in_err-keep-in-Ok-Beside-clause-most g c =
