@@ -21,17 +21,16 @@ use Rattle.tx_quiesce.specs.Limits.{is_page_limit}
 use Rattle.tx_quiesce.specs.Meeting.{Meeting}
 use Rattle.tx_quiesce.specs.Moves.{carried_row, carried_opens}
 use Rattle.tx_quiesce.specs.Shift.{end_now}
-use Rattle.tx_quiesce.specs.Reuse.{moved, moved_begun, rest_of, further, reused_by, reused_rows, meeting_behind, made_behind, made_after}
+use Rattle.tx_quiesce.specs.Reuse.{moved, moved_begun, rest_of, further, reused_by, reused_rows, meeting_behind, made_behind}
 use Rattle.tx_quiesce.proofs.Carried.{LaterTells, later-tells, reused-rows, reused-idle}
 use Rattle.tx_session.specs.declared.kept.Cut.{Cut}
-use Rattle.tx_session.specs.declared.kept.Earlier.{Earlier}
 use Rattle.tx_session.specs.declared.kept.Made.{Made}
-use Rattle.tx_session.specs.Cut.{end_of, base_of, since_of, standing_of, are_small, IsLed, IsCut, IsKept, ShowsLive}
+use Rattle.tx_session.specs.Cut.{end_of, are_small, IsLed, IsCut}
 use Rattle.tx_session.specs.Held.{Held, fresh, rows_of, joined_with, with_files}
-use Rattle.tx_session.specs.Made.{last_piece, pieces_after, IsSaid}
+use Rattle.tx_session.specs.Made.{last_piece, pieces_after}
 use Rattle.tx_session.specs.Report.{report_of, report, work}
 use Rattle.tx_session.specs.Shows.{Shows}
-use Rattle.tx_session.specs.Standing.{Standing, now, is_whole, is_cut, keeps}
+use Rattle.tx_session.specs.Standing.{now, is_whole, is_cut, keeps}
 use Rattle.tx_session.proofs.Saying.{last-said, is-said}
 use Rattle.tx_session.proofs.Showing.{fresh-tells, shown-end, kept-rows, one-length, remade, its_meeting, meeting_told, told_is, many, reused-told, reused-within, report-told, report-on, shows-still, work-on}
 use Rattle.tx_session.proofs.Standings.{all_changed-append, all_fit-append, are_small-append, both-true, small-told, whole-not-cut}
@@ -167,10 +166,10 @@ module _ {S M : Type 0} {m : Formatter M} {meaning : S → M} {pending : S → L
     end_is : end_of later.further ≡ behind_it.last.end
     end_is = end-last changes made.rows.last later.further ∙ ap (λ last. last.end) tells.last
 
-    pub keeps-told : {count : ℕ} → count ≡ length changes → (is_whole made.rows.last.end && is_cut (end_of later.further) && nat_le count 1000) ≡ keeps m 1000 (record { base = before; since = changes })
-    keeps-told count_is =
+    pub keeps-told : (is_whole made.rows.last.end && is_cut (end_of later.further) && nat_le (length changes) 1000) ≡ keeps m 1000 (record { base = before; since = changes })
+    keeps-told =
         let ends : end_of later.further ≡ (fresh m (now (record { base = before; since = changes }))).ran.end = end_is ∙ sym (ap (λ h. h.last.end) now_is) ∙ fresh_end in
-        λ i. is_whole (shown-end led.shows i) && is_cut (ends i) && nat_le (count_is i) 1000
+        λ i. is_whole (shown-end led.shows i) && is_cut (ends i) && nat_le (length changes) 1000
 
     -- it is taken over
     module _ {new : Made S} (idle : LaterIsIdle m meaning pending later) (are : AreReused changes made.rows kept later new.rows)
@@ -196,9 +195,9 @@ module _ {S M : Type 0} {m : Formatter M} {meaning : S → M} {pending : S → L
       taken-report stay = ap (report_of (length new.rows.pages.items) kept) count_is ∙ report-on led.shows changes led.fits led.led stay new taken-shows
 
     -- or it meets the run before nowhere
-    module _ {count : ℕ} (kept_so : (is_whole made.rows.last.end && is_cut (end_of later.further) && nat_le count 1000) ≡ true) where
+    module _ (kept_so : (is_whole made.rows.last.end && is_cut (end_of later.further) && nat_le (length changes) 1000) ≡ true) where
       ends_so : (is_whole made.rows.last.end ≡ true) × (is_cut (end_of later.further) ≡ true)
-      ends_so = kept-parts (is_whole made.rows.last.end) (is_cut (end_of later.further)) (nat_le count 1000) kept_so
+      ends_so = kept-parts (is_whole made.rows.last.end) (is_cut (end_of later.further)) (nat_le (length changes) 1000) kept_so
 
       none : its_meeting led.shows changes led.fits led.led ≡ None
       none = unmet m held.files changes (start_of m held.main held.date) held.limits.budget (held.limits.pages - kept) old (run_behind m held.files (rows_in old.pages) kept held.main held.date held.limits)

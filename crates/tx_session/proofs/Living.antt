@@ -1,25 +1,22 @@
 -- What a document that is typed shows, by what it keeps.
-use Rattle.std.proofs.Common.{◌≡◌, ℕ, ◌+◌, ◌-◌, ◌<◌, ◌≤◌, ◌==◌, Bool, true, false, true≢false, List, [], ◌∷◌, ◌++◌, length, take, drop, Option, Some, None, refl, sym, ap, subst, ◌∙◌, arith}
+use Rattle.std.proofs.Common.{◌≡◌, ℕ, ◌≤◌, ◌==◌, Bool, true, false, true≢false, List, [], ◌∷◌, ◌++◌, length, take, Option, Some, None, refl, sym, ap, subst, ◌∙◌, arith}
 use Rattle.std.proofs.lemmas.Bool.{eqb-true}
-use Rattle.std.proofs.lemmas.List.{length-map, length-append}
+use Rattle.std.proofs.lemmas.List.{length-map}
 use Rattle.tx_bytes.specs.Files.{Files}
-use Rattle.tx_dvi.specs.Page.{Page}
 use Rattle.tx_files.specs.declared.edit.Change.{Change}
 use Rattle.tx_files.specs.Changes.{all_fit, all_changed, AreSmall}
 use Rattle.tx_machine.specs.Machine.{Formatter}
 use Rattle.tx_checkpoint.specs.Locate.{located_in, located}
 use Rattle.tx_checkpoint.specs.Meant.{AreSame}
-use Rattle.tx_checkpoint.specs.Rows.{History, rows_in}
-use Rattle.tx_checkpoint.proofs.Locating.{located-rows, located-told}
-use Rattle.tx_session.specs.declared.kept.Cut.{Cut}
+use Rattle.tx_checkpoint.proofs.Locating.{located-told}
 use Rattle.tx_session.specs.declared.kept.Earlier.{Earlier}
 use Rattle.tx_session.specs.declared.kept.Made.{Made}
 use Rattle.tx_session.specs.Cut.{base_of, since_of, standing_of, IsLed, IsCut, IsKept, ShowsLive}
-use Rattle.tx_session.specs.Held.{Held, fresh, rows_of, joined_with, transcript, with_files, changed_session}
+use Rattle.tx_session.specs.Held.{Held, fresh, rows_of, joined_with, transcript, with_files}
 use Rattle.tx_session.specs.Shows.{Shows}
 use Rattle.tx_session.specs.Report.{report, work}
 use Rattle.tx_session.specs.Standing.{Standing, now, settled, keeps, made_of, report_since, work_since, turns_since}
-use Rattle.tx_session.proofs.Coming.{shows-same, led-same, cut-same, led-on}
+use Rattle.tx_session.proofs.Coming.{led-same, cut-same, led-on}
 use Rattle.tx_session.proofs.Showing.{fresh-tells, fresh-few, one-length}
 use Rattle.tx_session.proofs.Standings.{made-kept, made-settled, report-made, work-made, turns-made}
 
@@ -113,7 +110,7 @@ shows-live-same new shows same said = record {
 
 -- changes that were made of the files
 module _ {S M : Type 0} {m : Formatter M} {meaning : S → M} {pending : S → List ℕ} {held : Held} {made : Made S} {earlier : Option (Earlier S)} (shows : ShowsLive m meaning pending held made earlier)
-    {files : Files} {changes all : List Change} (fit : all_fit held.files changes ≡ true) (few : AreSmall held.files changes) (changed : files ≡ all_changed held.files changes)
+    (files : Files) (changes all : List Change) (fit : all_fit held.files changes ≡ true) (few : AreSmall held.files changes) (changed : files ≡ all_changed held.files changes)
     (all_is : all ≡ since_of earlier ++ changes) where
   abbrev t : Standing
   t = standing_of held earlier
@@ -149,7 +146,7 @@ module _ {S M : Type 0} {m : Formatter M} {meaning : S → M} {pending : S → L
     settled-now lets_go = sym (made-settled m 1000 t changes some (keeps-now ∙ lets_go) ∙ ap settled now-next)
 
     -- or it is
-    module _ {e : Earlier S} (files_is : e.files ≡ base) (since_is : e.since ≡ all) (keeps_it : keeps m 1000 (record { base = with_files after base; since = all }) ≡ true) where
+    module _ (e : Earlier S) (files_is : e.files ≡ base) (since_is : e.since ≡ all) (keeps_it : keeps m 1000 (record { base = with_files after base; since = all }) ≡ true) where
       pub kept-now : standing_of after (Some e) ≡ made_of m 1000 t changes
       kept-now = (λ i. record { base = with_files held (files_is i); since = (since_is ∙ all_is) i }) ∙ sym (made-kept m 1000 t changes some (keeps-now ∙ keeps_it))
 

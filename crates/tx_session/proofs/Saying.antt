@@ -19,6 +19,11 @@ pub on-err : {T E : Type 0} (r : Result T E) {P Q : Type 0} → (P → Q) → On
 on-err (Ok x) f p = tt
 on-err (Err x) f p = f p
 
+-- so it is whatever the answer says
+pub err-so : {T E : Type 0} (r : Result T E) {P : Type 0} → P → OnErr r P
+err-so (Ok x) p = tt
+err-so (Err x) p = p
+
 pub last-said : {S : Type 0} (changes : List Change) (last : Last) (f : Further S) → (last_of changes last f).piece ≡ last_piece last.piece f
 last-said changes last (Goes rows) = refl
 last-said changes last (Stands end) = refl

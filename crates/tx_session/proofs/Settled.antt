@@ -1,5 +1,5 @@
 -- A session stands where no earlier run is kept.
-use Rattle.std.proofs.Common.{◌≡◌, ℕ, suc, zero, ◌<◌, ◌≤◌, Bool, true, false, cond, ◌&&◌, nat_le, List, [], ◌∷◌, length, refl, sym, ap, ◌∙◌, arith}
+use Rattle.std.proofs.Common.{◌≡◌, ℕ, ◌<◌, Bool, true, false, cond, ◌&&◌, nat_le, List, [], ◌∷◌, length, refl, sym, ap, ◌∙◌, arith}
 use Rattle.std.specs.List.{list_all}
 use Rattle.std.proofs.lemmas.Bool.Decides.{leb_tells}
 use Rattle.std.proofs.lemmas.List.{length-map}
@@ -12,7 +12,7 @@ use Rattle.tx_checkpoint.specs.Rows.{History, rows_in}
 use Rattle.tx_quiesce.specs.Reuse.{reused_rows}
 use Rattle.tx_session.specs.Held.{Held, fresh, rows_of, changed_session}
 use Rattle.tx_session.specs.Report.{report_of, report, work, resumed_at, meeting_of, formatted_turns, turns_of_changes}
-use Rattle.tx_session.specs.Standing.{Standing, now, settled, is_whole, is_cut, keeps, made_of, report_since, work_since, turns_since}
+use Rattle.tx_session.specs.Standing.{Standing, now, settled, is_whole, is_cut, made_of, report_since, work_since, turns_since}
 use Rattle.tx_session.proofs.Showing.{fresh-tells}
 
 -- no change touches nothing

@@ -1,5 +1,5 @@
 -- Where a document stands, changes lead to the files that they make, of whatever run they are made.
-use Rattle.std.proofs.Common.{◌≡◌, ℕ, ◌+◌, ◌^◌, ◌<◌, Bool, true, false, cond, ◌&&◌, nat_lt, nat_le, List, [], ◌∷◌, ◌++◌, length, refl, sym, ap, ◌∙◌, arith}
+use Rattle.std.proofs.Common.{◌≡◌, ℕ, ◌^◌, Bool, true, false, cond, ◌&&◌, nat_lt, List, [], ◌∷◌, ◌++◌, refl, sym, ap, ◌∙◌}
 use Rattle.std.proofs.lemmas.Bool.{and_parts, lt-ltb, ltb-true}
 use Rattle.tx_bytes.specs.Files.{Files}
 use Rattle.tx_files.specs.Changes.{name_of, fits, changed, all_fit, all_changed, AreSmall}
@@ -9,7 +9,7 @@ use Rattle.tx_machine.specs.declared.types.End.{End as RunEnd}
 use Rattle.tx_machine.specs.declared.types.End.TheVariants.{End, Error, Budget, PageLimit}
 use Rattle.tx_machine.specs.Machine.{Formatter}
 use Rattle.tx_session.specs.Cut.{are_small}
-use Rattle.tx_session.specs.Held.{Held, fresh, with_files, changed_session, after_all}
+use Rattle.tx_session.specs.Held.{with_files, changed_session, after_all}
 use Rattle.tx_session.specs.Report.{report, work}
 use Rattle.tx_session.specs.Standing.{Standing, now, settled, is_whole, is_cut, keeps, kept, made_of, next_standing, report_since, work_since, turns_since}
 

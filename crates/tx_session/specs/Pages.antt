@@ -1,5 +1,5 @@
 -- A page of a run by itself, and what it brought to the transcript.
-use Rattle.std.specs.Prelude.{ℕ, zero, suc, ◌-◌, List, take, slice_get, Option, Some, None, option_map}
+use Rattle.std.specs.Prelude.{ℕ, zero, suc, ◌-◌, List, take, slice_get, Option, None, option_map}
 use Rattle.tx_dviselect.specs.Alone.{page_file}
 use Rattle.tx_dvi.specs.Dvi.{fonts_of}
 use Rattle.tx_dvi.specs.Page.{Page}

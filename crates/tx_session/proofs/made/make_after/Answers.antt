@@ -1,4 +1,4 @@
-use Rattle.std.proofs.Common.{sym, ap, ◌∙◌}
+use Rattle.std.proofs.Common.{◌∙◌}
 use Rattle.tx_quiesce.proofs.Carried.{reused-rows, reused-idle}
 use Rattle.tx_session.proofs.Saying.{is-said}
 use Rattle.tx_session.proofs.made.make_after.Goals as goal

@@ -1,7 +1,6 @@
-use Rattle.std.proofs.Common.{◌≡◌, ◌≤◌, ◌++◌, length, take, sym, ap, subst, ◌∙◌}
-use Rattle.std.proofs.lemmas.List.{length-take-le}
+use Rattle.std.proofs.Common.{◌++◌, take, sym, ap, ◌∙◌}
 use Rattle.tx_session.specs.Held.{Held, fresh}
-use Rattle.tx_session.proofs.Living.{alone, held-is, kept-pieces, cut-pieces-are}
+use Rattle.tx_session.proofs.Living.{alone, held-is, cut-pieces-are}
 use Rattle.tx_session.proofs.Showing.{shown-pieces}
 use Rattle.tx_session.proofs.live.Live.pieces.Goals as goal
 

@@ -1,7 +1,6 @@
-use Rattle.std.proofs.Common.{◌≡◌, ◌≤◌, ◌++◌, length, take, sym, ap, subst, ◌∙◌}
-use Rattle.std.proofs.lemmas.List.{length-take-le}
+use Rattle.std.proofs.Common.{◌++◌, take, sym, ap, ◌∙◌}
 use Rattle.tx_session.specs.Held.{Held, fresh}
-use Rattle.tx_session.proofs.Living.{alone, held-is, kept-pages, cut-pages-are}
+use Rattle.tx_session.proofs.Living.{alone, held-is, cut-pages-are}
 use Rattle.tx_session.proofs.Showing.{shown-pages}
 use Rattle.tx_session.proofs.live.Live.shown.Goals as goal
 

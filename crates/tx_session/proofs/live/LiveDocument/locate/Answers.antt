@@ -1,4 +1,4 @@
-use Rattle.std.proofs.Common.{◌≤◌, length, ap, ◌∙◌}
+use Rattle.std.proofs.Common.{◌++◌, take, ap, ◌∙◌}
 use Rattle.tx_checkpoint.specs.Locate.{located, located_in}
 use Rattle.tx_checkpoint.proofs.Locating.{located-rows}
 use Rattle.tx_session.specs.Held.{Held, rows_of}
@@ -12,5 +12,7 @@ returns-in-None g c =
 
 pub returns-in-Some : goal.returns-in-Some
 returns-in-Some g c =
-    c.locate_between.ensures ∙ cut-located (c.self.invariant.kept c.in-Some.earlier c.in-Some.is) c.args.name.now c.args.place
+    c.locate_between.ensures
+    ∙ (λ i. located_in (take c.in-Some.earlier.cut.kept (c.as_slice.ensures.value i) ++ c.as_slice-in-Some.ensures.value i) c.in-Some.earlier.cut.last c.args.name.now c.args.place)
+    ∙ cut-located (c.self.invariant.kept c.in-Some.earlier c.in-Some.is) c.args.name.now c.args.place
     ∙ ap (λ (held : Held). located (rows_of g.M.Machine.formatter held) c.args.name.now c.args.place) (held-is c.self.invariant c.self.view_is)

@@ -8,4 +8,4 @@ pub returns-in-None : goal.returns-in-None
 returns-in-None g c = c.as_slice.ensures ∙ shown-said (alone c.self.invariant c.in-None.is) ∙ ap (λ (held : Held). transcript (fresh g.M.Machine.formatter held).ran) (held-is c.self.invariant c.self.view_is)
 
 pub returns-in-Some : goal.returns-in-Some
-returns-in-Some g c = c.as_slice.ensures ∙ cut-said-is (c.self.invariant.kept c.in-Some.earlier c.in-Some.is) ∙ ap (λ (held : Held). transcript (fresh g.M.Machine.formatter held).ran) (held-is c.self.invariant c.self.view_is)
+returns-in-Some g c = c.as_slice-in-Some.ensures ∙ cut-said-is (c.self.invariant.kept c.in-Some.earlier c.in-Some.is) ∙ ap (λ (held : Held). transcript (fresh g.M.Machine.formatter held).ran) (held-is c.self.invariant c.self.view_is)
