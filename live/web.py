@@ -7,6 +7,7 @@ import http.server
 import json
 import os
 import secrets
+import sys
 import urllib.parse
 
 from desk import Conflict
@@ -30,6 +31,11 @@ class Web(http.server.ThreadingHTTPServer):
         self.desk, self.pictures, self.words, self.token = desk, pictures, words, secrets.token_urlsafe(18)
         self.port = self.server_address[1]
         self.hosts = {f"127.0.0.1:{self.port}", f"localhost:{self.port}"}
+
+    def handle_error(self, request, client_address):
+        # (a browser that goes away is no fault)
+        if not isinstance(sys.exc_info()[1], ConnectionError):
+            super().handle_error(request, client_address)
 
     def state(self):
         """All that the page shows but the pictures and the texts."""

@@ -18,21 +18,23 @@ class Browser:
     """A browser with one page."""
 
     def __init__(self, address, width=1280, height=800):
-        self.folder = tempfile.TemporaryDirectory(prefix="browser-")
+        self.folder = tempfile.mkdtemp(prefix="browser-")
         (theirs, self.ours), (self.answers, their_answers) = os.pipe(), os.pipe()
         # (numbers that are far from those which it looks for its pipe at)
         theirs, their_answers = (fcntl.fcntl(number, fcntl.F_DUPFD, 20) for number in (theirs, their_answers))
-        words = [program(), "--headless", "--disable-gpu", "--no-first-run", "--disable-extensions", "--disable-dev-shm-usage", "--remote-debugging-pipe", f"--user-data-dir={self.folder.name}", f"--window-size={width},{height}"]
+        words = [program(), "--headless", "--disable-gpu", "--no-first-run", "--disable-extensions", "--disable-dev-shm-usage", "--remote-debugging-pipe", f"--user-data-dir={self.folder}"]
         words += ["--no-sandbox"] if os.getuid() == 0 else []
         self.process = subprocess.Popen(words, stdin=subprocess.DEVNULL, stdout=subprocess.DEVNULL, stderr=subprocess.DEVNULL, close_fds=False,
                                         preexec_fn=lambda: (os.dup2(theirs, 3), os.dup2(their_answers, 4)))
         os.close(theirs)
         os.close(their_answers)
         self.number, self.read, self.session = 0, b"", None
-        target = self.call("Target.createTarget", url="about:blank", width=width, height=height)["targetId"]
+        target = self.call("Target.createTarget", url="about:blank")["targetId"]
         self.session = self.call("Target.attachToTarget", targetId=target, flatten=True)["sessionId"]
         self.call("Page.enable")
+        self.call("Emulation.setDeviceMetricsOverride", width=width, height=height, deviceScaleFactor=1, mobile=False)
         self.call("Page.navigate", url=address)
+        self.until("location.protocol === 'http:' && document.readyState === 'complete'")
 
     def call(self, method, **params):
         self.number += 1
@@ -88,5 +90,5 @@ class Browser:
         self.process.wait()
         os.close(self.ours)
         os.close(self.answers)
-        shutil.rmtree(self.folder.name, ignore_errors=True)
-        self.folder.cleanup()
+        # (what it began may still be at its files)
+        shutil.rmtree(self.folder, ignore_errors=True)
