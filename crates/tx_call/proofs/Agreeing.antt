@@ -51,12 +51,15 @@ module _ {S : Type 0} (m : Formatter S) (most : ℕ) where
   effect-takes t (Locate at) = refl
 
 -- a document of which no earlier run is kept
-alone : (t : Sitting) → t.standing.since ≡ [] → sitting_at (record { held = t.standing.base; edits = t.edits; places = t.places; outside = t.outside }) ≡ t
+abbrev alone_at : Sitting → Moment
+alone_at t = record { held = t.standing.base; edits = t.edits; places = t.places; outside = t.outside }
+
+alone : (t : Sitting) → t.standing.since ≡ [] → sitting_at (alone_at t) ≡ t
 alone t none = ap (λ (since : List Change). record { standing = record { base = t.standing.base; since = since }; edits = t.edits; places = t.places; outside = t.outside }) (sym none)
 
 pub agrees : {S : Type 0} (m : Formatter S) (t : Sitting) (c : Command) → AgreesWithScript m t c
 agrees m t c = record {
   leads = effect-leads m most_changes t c;
-  says_so = λ none. subst (λ (t : Sitting). (effect m most_changes t c).pieces ≡ pieces_at m (moment_of t) c) (alone t none) (effect-says m most_changes _ c);
-  takes = λ none. subst (λ (t : Sitting). (effect m most_changes t c).turns ≡ turns_at m (moment_of t) c) (alone t none) (effect-takes m most_changes _ c);
+  says_so = λ none. subst (λ (t : Sitting). (effect m most_changes t c).pieces ≡ pieces_at m (moment_of t) c) (alone t none) (effect-says m most_changes (alone_at t) c);
+  takes = λ none. subst (λ (t : Sitting). (effect m most_changes t c).turns ≡ turns_at m (moment_of t) c) (alone t none) (effect-takes m most_changes (alone_at t) c);
 }

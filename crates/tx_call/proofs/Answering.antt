@@ -32,6 +32,12 @@ still steps = omega arith
 no-fewer : (steps turns : ℕ) → steps ≤ raised steps turns
 no-fewer steps turns = omega arith
 
+edit-wants : (t : Sitting) (c : ScriptCommand) → IsEdit c → wanting t (Command c) ≡ Some (edit_wanting t)
+edit-wants t (Lone c) is = refl
+edit-wants t (Batch changes) is = refl
+edit-wants t (SaveAs name) is = absurd is
+edit-wants t (Locate at) is = absurd is
+
 module _ {S : Type 0} (m : Formatter S) {T : Type 0} where
   -- a command was carried out, and then it was said, where that is said, that a save was made
   pub carried-out : (result : Result T Trouble) (c : ScriptCommand) {t t' : Sitting} {before between after : Option Output} {steps steps' : ℕ}
@@ -104,8 +110,8 @@ module _ {S : Type 0} (m : Formatter S) {T : Type 0} where
         asked = refl;
         may_come = λ none. absurd (let no : Some (edit_wanting t) ≡ None = sym is ∙ none in cc);
         comes = record {
-          sitting_is = counted ∙ ap (λ e. e.behind) (sym comes);
-          output_is = puts ∙ ap (λ e. told before e.pieces) (sym comes);
+          sitting_is = counted ∙ ap (λ (e : Effect). e.behind) (sym comes);
+          output_is = puts ∙ ap (λ (e : Effect). told before e.pieces) (sym comes);
           most = most;
           steps_are = λ never. absurd never;
         };
@@ -118,12 +124,6 @@ module _ {S : Type 0} (m : Formatter S) {T : Type 0} where
         may_come = λ none. absurd (let no : Some (edit_wanting t) ≡ None = sym is ∙ none in cc);
         comes = record { cut = subst (λ (ps : List Piece). IsCutShort before ps after) (sym pieces) puts; most = most };
       }
-
-  edit-wants : (t : Sitting) (c : ScriptCommand) → IsEdit c → wanting t (Command c) ≡ Some (edit_wanting t)
-  edit-wants t (Lone c) is = refl
-  edit-wants t (Batch changes) is = refl
-  edit-wants t (SaveAs name) is = absurd is
-  edit-wants t (Locate at) is = absurd is
 
   told-behind : (result : Result T Trouble) (r : Request) {t here t' : Sitting} {before between after : Option Output} {steps steps' : ℕ} (e : Effect)
       → e.turns ≡ (answer_to m t r).turns → wanting t r ≡ Some (edit_wanting t) → ComesToNothing e t here before between steps steps'
@@ -162,10 +162,10 @@ module _ {S : Type 0} (m : Formatter S) {T : Type 0} where
     asked = refl;
     may_come = tt;
     comes = record {
-      sitting_is = ap (λ e. e.behind) (sym is);
-      output_is = puts ∙ ap (λ e. told before e.pieces) (sym is);
+      sitting_is = ap (λ (e : Effect). e.behind) (sym is);
+      output_is = puts ∙ ap (λ (e : Effect). told before e.pieces) (sym is);
       most = no-fewer steps _;
-      steps_are = λ _. still steps ∙ ap (λ e. raised steps e.turns) (sym is);
+      steps_are = λ _. still steps ∙ ap (λ (e : Effect). raised steps e.turns) (sym is);
     };
   }
   said (Err trouble) r t text {before = before} {after = after} steps is puts = record {

@@ -8,6 +8,7 @@ use Rattle.tx_io.proofs.Told.{told-append}
 use Rattle.tx_io.proofs.CutShort.{cut-nothing, cut-whole, cut-behind}
 use Rattle.tx_machine.specs.Machine.{Formatter}
 use Rattle.tx_machine.specs.Steps.{raised}
+use Rattle.tx_machine.proofs.Going.{raised-raised}
 use Rattle.tx_request.specs.declared.request.Next.{Next}
 use Rattle.tx_request.specs.Requests as requests
 use Rattle.tx_request.specs.Requests.{AreRead, IsAtFront, IsNext}
@@ -49,19 +50,21 @@ read-nothing : (left : Option (List ℕ)) → AreReadUpTo left [] left
 read-nothing None = tt
 read-nothing (Some bytes) = requests.None
 
-raised-both : (steps now now' first second : ℕ) → now ≤ raised steps first → now' ≤ raised now second → now' ≤ raised steps (first + second)
+zero-behind : (n : ℕ) → n + 0 ≡ 0 + n
+zero-behind n = omega arith
+
+plus-first : (a b c : ℕ) → a + (b + c) ≡ (a + b) + c
+plus-first a b c = omega arith
+
+pub raised-both : (steps now now' first second : ℕ) → now ≤ raised steps first → now' ≤ raised now second → now' ≤ raised steps (first + second)
 raised-both steps now now' first second so_far next = omega (arith, so_far, next)
 
-raised-twice : (steps now now' first second : ℕ) → now ≡ raised steps first → now' ≡ raised now second → now' ≡ raised steps (first + second)
-raised-twice steps now now' first second so_far next = omega (arith, so_far, next)
+pub raised-twice : (steps now now' first second : ℕ) → now ≡ raised steps first → now' ≡ raised now second → now' ≡ raised steps (first + second)
+raised-twice steps now now' first second so_far next = next ∙ ap (λ n. raised n second) so_far ∙ raised-raised steps first second
 
 module _ {S : Type 0} (m : Formatter S) where
   pieces-more : (t : Sitting) (events : List Event) (e : Event) → (all_came m t (events ++ e ∷ [])).pieces ≡ (all_came m t events).pieces ++ (came m (all_came m t events).behind e).pieces
-  pieces-more t [] e = append_nil_of (came m t e).pieces
-    where
-      append_nil_of : (ps : List Piece) → ps ++ [] ≡ ps
-      append_nil_of [] = refl
-      append_nil_of (p ∷ ps) = ap (λ qs. p ∷ qs) (append_nil_of ps)
+  pieces-more t [] e = append-nil (came m t e).pieces
   pieces-more t (event ∷ events) e = ap (λ ps. (came m t event).pieces ++ ps) (pieces-more (came m t event).behind events e) ∙ sym (append_assoc (came m t event).pieces _ _)
 
   behind-more : (t : Sitting) (events : List Event) (e : Event) → (all_came m t (events ++ e ∷ [])).behind ≡ (came m (all_came m t events).behind e).behind
@@ -69,8 +72,8 @@ module _ {S : Type 0} (m : Formatter S) where
   behind-more t (event ∷ events) e = behind-more (came m t event).behind events e
 
   turns-more : (t : Sitting) (events : List Event) (e : Event) → (all_came m t (events ++ e ∷ [])).turns ≡ (all_came m t events).turns + (came m (all_came m t events).behind e).turns
-  turns-more t [] e = omega arith
-  turns-more t (event ∷ events) e = omega (arith, turns-more (came m t event).behind events e)
+  turns-more t [] e = zero-behind (came m t e).turns
+  turns-more t (event ∷ events) e = ap (λ n. (came m t event).turns + n) (turns-more (came m t event).behind events e) ∙ plus-first (came m t event).turns _ _
 
   may-come-more : (t : Sitting) (events : List Event) (e : Event) → AllMayCome m t events → MayCome (all_came m t events).behind e → AllMayCome m t (events ++ e ∷ [])
   may-come-more t [] e all one = (one, tt)
@@ -95,14 +98,14 @@ module _ {S : Type 0} (m : Formatter S) where
       read = read-next left left_here left' events one.event so_far.read one.read;
       may_come = may-come-more t events one.event so_far.may_come (subst (λ (s : Sitting). MayCome s one.event) so_far.comes.sitting_is one.may_come);
       comes = record {
-        sitting_is = one.comes.sitting_is ∙ ap (λ e. e.behind) (from one.event) ∙ sym (behind-more t events one.event);
+        sitting_is = one.comes.sitting_is ∙ ap (λ (e : Effect). e.behind) (from one.event) ∙ sym (behind-more t events one.event);
         output_is = one.comes.output_is ∙ ap (λ o. told o (came m here one.event).pieces) so_far.comes.output_is ∙ told-append before (all_came m t events).pieces (came m here one.event).pieces
-            ∙ ap (λ e. told before ((all_came m t events).pieces ++ e.pieces)) (from one.event) ∙ ap (told before) (sym (pieces-more t events one.event));
+            ∙ ap (λ (e : Effect). told before ((all_came m t events).pieces ++ e.pieces)) (from one.event) ∙ ap (told before) (sym (pieces-more t events one.event));
         most = subst (λ (n : ℕ). steps' ≤ raised steps n) (sym (turns-more t events one.event))
             (raised-both steps steps_here steps' _ _ so_far.comes.most (subst (λ (e : Effect). steps' ≤ raised steps_here e.turns) (from one.event) one.comes.most));
         steps_are = λ exact.
             let both : AreExact events × IsExact one.event = exact-more events one.event exact in
-            raised-twice steps steps_here steps' _ _ (so_far.comes.steps_are both.0) (one.comes.steps_are both.1 ∙ ap (λ e. raised steps_here e.turns) (from one.event))
+            raised-twice steps steps_here steps' _ _ (so_far.comes.steps_are both.0) (one.comes.steps_are both.1 ∙ ap (λ (e : Effect). raised steps_here e.turns) (from one.event))
             ∙ ap (raised steps) (sym (turns-more t events one.event));
       };
     }

@@ -21,6 +21,9 @@ most_at t = most_of t.standing.base
 abbrev most_by : Limits → ℕ
 most_by limits = (limits.pages + 1) * limits.budget
 
+sum-most : (a b n most : ℕ) → a ≤ most → b ≤ n * most → a + b ≤ suc n * most
+sum-most a b n most first others = omega (arith, suc-mul n most, first, others)
+
 module _ {S : Type 0} (m : Formatter S) (lawful : IsLawful m) where
   work_since-most : (t : Standing) (changes : List Change) → work_since m t changes ≤ most_of t.base
   work_since-most t [] = omega arith
@@ -94,4 +97,4 @@ module _ {S : Type 0} (m : Formatter S) (lawful : IsLawful m) where
   all-most t (e ∷ events) =
       let rest : (all_came m (came m t e).behind events).turns ≤ length events * most_at t =
       subst (λ (limits : Limits). (all_came m (came m t e).behind events).turns ≤ length events * most_by limits) (came-limits t e) (all-most (came m t e).behind events) in
-      omega (arith, suc-mul (length events) (most_at t), rest, came-most t e)
+      sum-most _ _ (length events) (most_at t) (came-most t e) rest

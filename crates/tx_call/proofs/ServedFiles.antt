@@ -1,5 +1,5 @@
 -- The line of a run, and then the answers to what came in.
-use Rattle.std.proofs.Common.{◌≡◌, ◌≢◌, ℕ, ◌+◌, ◌≤◌, ◌<◌, ◌⊎◌, inl, inr, ⊎_elim, List, [], ◌∷◌, ◌++◌, map, Option, Some, None, Result, Ok, Err, refl, sym, ap, subst, ◌∙◌, arith, append-nil}
+use Rattle.std.proofs.Common.{◌≡◌, ◌≢◌, ℕ, zero, suc, ◌+◌, ◌≤◌, ◌<◌, ◌⊎◌, inl, inr, ⊎_elim, List, [], ◌∷◌, ◌++◌, map, Option, Some, None, Result, Ok, Err, refl, sym, ap, subst, ◌∙◌, arith, append-nil}
 use Rattle.std.specs.Prelude.{IfSome, unwrap_or, IsErrAnd}
 use Rattle.std.specs.Option.{IsSomeAnd}
 use Rattle.tx_bytes.specs.Files.{Files}
@@ -23,7 +23,7 @@ use Rattle.tx_words.specs.declared.given.Asked.TheVariants.{Serve}
 use Rattle.tx_words.specs.declared.given.Serving.{Serving}
 use Rattle.tx_call.specs.Outcome.{first_piece, ForHeld}
 use Rattle.tx_call.specs.Replay.{status_after}
-use Rattle.tx_call.specs.Serving.{AreHeard, AsksForNone, ForServing, IsServed, IsServedInPart, IsServedToTheEnd, ServeLeaves, served_turns, status_of}
+use Rattle.tx_call.specs.Serving.{AreHeard, AsksForNone, ForServing, IsServed, IsServedInPart, IsServedToTheEnd, ServeLeaves, served_pieces, status_of}
 use Rattle.tx_call.specs.Sitting.{Sitting}
 use Rattle.tx_call.proofs.Held.{for_held}
 use Rattle.tx_call.proofs.HeardSoFar.{raised-both, raised-twice}
@@ -33,27 +33,54 @@ heard m t None left' events read may_come = record { are_read = tt; may_come = m
 heard m t (Some bytes) None events read may_come = absurd read
 heard m t (Some bytes) (Some rest) events read may_come = record { are_read = read; may_come = may_come }
 
+is-most : (steps steps' turns : ℕ) → steps' ≡ raised steps turns → steps' ≤ raised steps turns
+is-most steps steps' turns is = omega (arith, is)
+
+-- nothing more was answered
+none-more : (steps steps' turns : ℕ) → steps' ≤ raised steps turns → steps' ≤ raised steps (turns + 0)
+none-more steps steps' turns most = omega (arith, most)
+
+no-turn : (steps steps' turns : ℕ) → steps' ≡ steps → steps' ≤ raised steps turns
+no-turn steps steps' turns still = omega (arith, still)
+
+not-three : (status : ℕ) → (status < 2) ⊎ (status ≡ 5) → status ≡ 3 → ⊥
+not-three status (inl small) three = omega (arith, small, three)
+not-three status (inr five) three = omega (arith, five, three)
+
 nothing-read : {S : Type 0} (m : Formatter S) (t : Sitting) (left : Option (List ℕ)) → AreHeard m t left [] (unwrap_or left [])
 nothing-read m t None = record { are_read = tt; may_come = tt }
 nothing-read m t (Some bytes) = record { are_read = requests.None; may_come = tt }
 
 module _ {S : Type 0} (m : Formatter S) (held : Held) {left : Option (List ℕ)} {before said after : Option Output} {steps steps_run steps' : ℕ} where
   -- all of it was put out
+  output-served : (events : List Event) → said ≡ told before (first_piece (fresh m held).ran ∷ []) → after ≡ told said (all_came m (begun held) events).pieces → after ≡ told before (served_pieces m held events)
+  output-served events line output = output ∙ ap (λ o. told o (all_came m (begun held) events).pieces) line ∙ told-append before (first_piece (fresh m held).ran ∷ []) (all_came m (begun held) events).pieces
+
+  most-served : (turns : ℕ) → steps_run ≡ raised steps (fresh m held).turns → steps' ≤ raised steps_run turns → steps' ≤ raised steps ((fresh m held).turns + turns)
+  most-served turns run most = raised-both steps steps_run steps' (fresh m held).turns turns (is-most steps steps_run (fresh m held).turns run) most
+
   pub served : {t' : Sitting} {left' : Option (List ℕ)} → said ≡ told before (first_piece (fresh m held).ran ∷ []) → steps_run ≡ raised steps (fresh m held).turns
       → Heard m (begun held) t' left left' said after steps_run steps' → IsServed m held left before after steps steps'
   served {left' = left'} line run so_far = record {
     events = so_far.events;
     rest = unwrap_or left' [];
     heard = heard m (begun held) left left' so_far.events so_far.read so_far.may_come;
-    output_is = so_far.comes.output_is ∙ ap (λ o. told o (all_came m (begun held) so_far.events).pieces) line ∙ told-append before (first_piece (fresh m held).ran ∷ []) (all_came m (begun held) so_far.events).pieces;
-    most = raised-both steps steps_run steps' (fresh m held).turns _ (omega (arith, run)) so_far.comes.most;
+    output_is = output-served so_far.events line so_far.comes.output_is;
+    most = most-served _ run so_far.comes.most;
     steps_are = λ exact. raised-twice steps steps_run steps' (fresh m held).turns _ run (so_far.comes.steps_are exact);
   }
 
   pub served-to-the-end : {t' : Sitting} (status : ℕ) → said ≡ told before (first_piece (fresh m held).ran ∷ []) → steps_run ≡ raised steps (fresh m held).turns
       → Heard m (begun held) t' left (Some []) said after steps_run steps' → status ≡ status_of m t' → IsServedToTheEnd m held left status before after steps steps'
   served-to-the-end status line run so_far is = record {
-    so_far = served line run so_far;
+    so_far = record {
+      events = so_far.events;
+      rest = [];
+      heard = heard m (begun held) left (Some []) so_far.events so_far.read so_far.may_come;
+      output_is = output-served so_far.events line so_far.comes.output_is;
+      most = most-served _ run so_far.comes.most;
+      steps_are = λ exact. raised-twice steps steps_run steps' (fresh m held).turns _ run (so_far.comes.steps_are exact);
+    };
     over = refl;
     status_is = is ∙ ap (status_of m) so_far.comes.sitting_is;
   }
@@ -67,7 +94,7 @@ module _ {S : Type 0} (m : Formatter S) (held : Held) {left : Option (List ℕ)}
     heard = heard m (begun held) left so_far.left' so_far.events so_far.read so_far.may_come;
     cut = cut-behind before (first_piece (fresh m held).ran ∷ []) (all_came m (begun held) so_far.events).pieces after
         (subst (λ (o : Option Output). IsCutShort o (all_came m (begun held) so_far.events).pieces after) line so_far.comes.cut);
-    most = raised-both steps steps_run steps' (fresh m held).turns _ (omega (arith, run)) so_far.comes.most;
+    most = most-served _ run so_far.comes.most;
   }
 
   -- trouble came before anything came in: of the line, the first bytes were said
@@ -77,13 +104,13 @@ module _ {S : Type 0} (m : Formatter S) (held : Held) {left : Option (List ℕ)}
     rest = unwrap_or left [];
     heard = nothing-read m (begun held) left;
     cut = cut;
-    most = omega (arith, most);
+    most = none-more steps steps' (fresh m held).turns most;
   }
 
   -- trouble came before the run
   pub served-nothing : after ≡ before → steps' ≡ steps → IsServedInPart m held left before after steps steps'
   served-nothing same still =
-      served-none (subst (λ (o : Option Output). IsCutShort before (first_piece (fresh m held).ran ∷ []) o) (sym same) (cut-nothing before (first_piece (fresh m held).ran ∷ []))) (omega (arith, still))
+      served-none (subst (λ (o : Option Output). IsCutShort before (first_piece (fresh m held).ran ∷ []) o) (sym same) (cut-nothing before (first_piece (fresh m held).ran ∷ []))) (no-turn steps steps' (fresh m held).turns still)
 
   -- what was put out whole is so in part
   pub all-in-part : IsServed m held left before after steps steps' → IsServedInPart m held left before after steps steps'
@@ -105,14 +132,14 @@ module _ {S : Type 0} (m : Formatter S) (held : Held) {left : Option (List ℕ)}
 
   pub leaves-at-fault : IsServed m held left before after steps steps' → ServeLeaves m held left 3 before after steps steps'
   leaves-at-fault so_far = record {
-    whole = λ early. absurd (⊎_elim (λ small. omega arith) (λ five. omega arith) early);
+    whole = λ early. absurd (not-three 3 early refl);
     at_fault = λ _. inr so_far;
     part = all-in-part so_far;
   }
 
   pub leaves-at-source : after ≡ before → steps' ≡ steps → ServeLeaves m held left 3 before after steps steps'
   leaves-at-source same still = record {
-    whole = λ early. absurd (⊎_elim (λ small. omega arith) (λ five. omega arith) early);
+    whole = λ early. absurd (not-three 3 early refl);
     at_fault = λ _. inl (same, still);
     part = served-nothing same still;
   }
@@ -140,7 +167,13 @@ served-words asked holds some then = λ serving is. for_held (some serving is) (
 pub serves-none : (asked : Asked) {IsSo : Serving → Type 0} → AsksForNone asked → ForServing asked IsSo
 serves-none asked none = λ serving is. absurd (none (serving, is))
 
+under : (n : ℕ) → n ≤ 2 → (n ≡ 2 → ⊥) → n < 2
+under zero small not_two = omega arith
+under (suc zero) small not_two = omega arith
+under (suc (suc zero)) small not_two = absurd (not_two refl)
+under (suc (suc (suc n))) small not_two = absurd (omega (arith, small))
+
 -- where all was answered, the status of words that ask to serve isn't that of a refusal
 pub early : (asked : Asked) (serving : Serving) → asked ≡ Serve serving → (status : ℕ) → (status ≤ 2) ⊎ (status ≡ 5) → (status ≡ 2 → AsksForNone asked) → (status < 2) ⊎ (status ≡ 5)
-early asked serving is status (inl small) refused = inl (omega (arith, small, λ (two : status ≡ 2). refused two (serving, is)))
+early asked serving is status (inl small) refused = inl (under status small (λ two. refused two (serving, is)))
 early asked serving is status (inr five) refused = inr five

@@ -1,6 +1,5 @@
 -- What a document that is served answers to what comes in.
-use Rattle.std.specs.Prelude.{◌≡◌, ◌≢◌, ℕ, false, ◌+◌, List, [], ◌∷◌, ◌++◌, Option, Some, None}
-use Rattle.std.specs.Option.{unwrap_or}
+use Rattle.std.specs.Prelude.{◌≡◌, ◌≢◌, ℕ, false, ◌+◌, List, [], ◌∷◌, ◌++◌, Option, Some, None, unwrap_or}
 use Rattle.tx_io.specs.Output.{Piece, Say}
 use Rattle.tx_differing.specs.Differing.{edit_to}
 use Rattle.tx_files.specs.declared.edit.Edit.{Edit as FileEdit}
