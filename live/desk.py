@@ -76,11 +76,11 @@ class File:
 class Desk:
     """A document's files, and the document. Its version grows with each change, for which others may wait."""
 
-    def __init__(self, program, main, paths, options=()):
+    def __init__(self, program, main, paths, options=(), date=None):
         """`paths` has the path of each file by its name."""
         self.main, self.files = main, {name: File(path) for name, path in paths.items()}
         there = {name: file.disk for name, file in self.files.items() if file.disk is not None}
-        self.document = Document(program, main, there, options)
+        self.document = Document(program, main, there, options, date)
         self.version, self.changed, self.ended = 1, threading.Condition(self.document.lock), None
         self.looking = threading.Thread(target=self.look, daemon=True)
         self.looking.start()
@@ -185,4 +185,5 @@ class Desk:
     def close(self):
         """Ends the document."""
         with self.changed:
-            self.ended = self.document.close()
+            self.document.close()
+            self.ended = 0

@@ -34,7 +34,7 @@ class Ended(Exception):
 class Document:
     """A document, from its first run on. `files` has the contents of each file as they are by now."""
 
-    def __init__(self, program, main, files, options=()):
+    def __init__(self, program, main, files, options=(), date=None):
         """Starts `program`, a list of words, with copies of the files in a folder of their own; `options` are further ones of `serve`."""
         self.files, self.lock = dict(files), threading.RLock()
         self._folder = tempfile.TemporaryDirectory(prefix="vortex-")
@@ -47,7 +47,7 @@ class Document:
             with open(path, "wb") as file:
                 file.write(contents)
         now = time.localtime()
-        date = f"{now.tm_year}-{now.tm_mon}-{now.tm_mday}-{60 * now.tm_hour + now.tm_min}"
+        date = date or f"{now.tm_year}-{now.tm_mon}-{now.tm_mday}-{60 * now.tm_hour + now.tm_min}"
         words = [*program, "serve", "--date", date, *options, "--", main, *(name for name in files if name != main)]
         # (in a session of its own it isn't reached by the Ctrl-C that ends its client)
         self.process = subprocess.Popen(words, cwd=self.folder, stdin=subprocess.PIPE, stdout=subprocess.PIPE, start_new_session=True)
@@ -101,11 +101,11 @@ class Document:
         return self._base[len(self.pages):] if self._since else []
 
     def close(self):
-        """Ends the program; its status."""
+        """Ends the program."""
         with self.lock:
+            self.process.terminate()
             self.process.communicate()
             self._folder.cleanup()
-            return self.process.returncode
 
     def _change(self, request, name, contents):
         with self.lock:
