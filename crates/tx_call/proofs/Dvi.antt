@@ -9,7 +9,7 @@ use Rattle.tx_io.specs.Output.{Output}
 use Rattle.tx_call.specs.declared.listed.Listed.{Listed}
 use Rattle.tx_call.specs.declared.listed.Listed.TheVariants.{Brings, Stops}
 use Rattle.tx_call.specs.declared.trouble.Interruption.{Interruption}
-use Rattle.tx_call.specs.Listing.{ReadsDvi, NamesNoDvi, HoldsNoDvi, listed_as}
+use Rattle.tx_call.specs.Listing.{HasNoPages, HoldsNoDvi, IsListed, NamesNoDvi, ReadsDvi, listed_as}
 use Rattle.tx_call.specs.Outcome.{ForHeld, listing}
 use Rattle.tx_call.specs.Trouble.{Does}
 use Rattle.tx_call.proofs.Held.{for_held}
@@ -29,19 +29,21 @@ listed_does holds name listed {r = r} {before = before} {after = after} {steps =
     (λ held is. subst (λ (l : Listed). Does r (listing l) before after steps steps') (reads.reading ∙ ap listed_as (sym is)) does)
 
 -- a file that was refused is none
+refused_none : (bytes : Option (List ℕ)) (place : ℕ) (rule : DviRule) → IsListed bytes (Stops place rule) → HasNoPages bytes
+refused_none None place rule is = tt
+refused_none (Some bytes) place rule is = is.none
+
 pub names_none : (holds : Option Files) (name : List ℕ) (place : ℕ) (rule : DviRule) → ReadsDvi holds name (Stops place rule) → NamesNoDvi holds (Some name)
-names_none holds name place rule reads = record {
-  name = name;
-  named = refl;
-  bytes = reads.bytes;
-  are_told = reads.are_told;
-  none = λ pages brings. absurd (let no : Stops place rule ≡ Brings pages = reads.reading ∙ brings in cc);
-}
+names_none holds name place rule reads = record { name = name; named = refl; bytes = reads.bytes; are_told = reads.are_told; none = refused_none reads.bytes place rule reads.is_so }
 
 -- and one that brings pages is one
+brought_some : (bytes : Option (List ℕ)) (pages : List ReadPage) → IsListed bytes (Brings pages) → HasNoPages bytes → ⊥
+brought_some None pages is none = is
+brought_some (Some bytes) pages is none = none pages is
+
 pub brings_some : (holds : Option Files) (name : List ℕ) (pages : List ReadPage) → ReadsDvi holds name (Brings pages) → HoldsNoDvi holds (Some name) → ⊥
 brings_some holds name pages reads hold =
     let named : Some name ≡ Some hold.name = hold.named in
     let same : hold.name ≡ name = cc in
     let told : content hold.held name ≡ reads.bytes = subst (λ (o : Option Files). IfSome o (λ held. content held name ≡ reads.bytes)) hold.told reads.are_told in
-    hold.none pages (ap (λ n. listed_as (content hold.held n)) same ∙ ap listed_as told ∙ sym reads.reading)
+    brought_some reads.bytes pages reads.is_so (subst (λ (bytes : Option (List ℕ)). HasNoPages bytes) (ap (λ (n : List ℕ). content hold.held n) same ∙ told) hold.none)

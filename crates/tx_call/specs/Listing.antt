@@ -9,6 +9,7 @@ use Rattle.tx_dvi.specs.declared.placed.Placed.{Placed}
 use Rattle.tx_dvi.specs.declared.placed.Placed.TheVariants.{Lettered, Ruled, Noted}
 use Rattle.tx_dvitype.specs.declared.reader.ReadPage.{ReadPage}
 use Rattle.tx_dvitype.specs.Files.{Broken, dvi_file}
+use Rattle.tx_dvitype.specs.Grammar.{IsDviFile, IsRefusal}
 use Rattle.tx_dvitype.specs.Rules.{number_of}
 use Rattle.tx_call.specs.declared.listed.Listed.{Listed}
 use Rattle.tx_call.specs.declared.listed.Listed.TheVariants.{Brings, Stops}
@@ -62,15 +63,24 @@ abbrev pub listed_as : Option (List ℕ) → Listed
 listed_as None = Stops 0 File
 listed_as (Some bytes) = as_listed (dvi_file bytes)
 
+-- what bytes are listed as: the pages of the DVI file that they are, or else why they are none
+abbrev pub IsListed : Option (List ℕ) → Listed → Type 0
+IsListed None (Brings pages) = ⊥
+IsListed None (Stops place rule) = Unit {0}
+IsListed (Some bytes) (Brings pages) = IsDviFile bytes pages
+IsListed (Some bytes) (Stops place rule) = IsRefusal bytes place rule
+
 -- the file of this name, which is the source's if it tells what it holds, is read so
 pub record ReadsDvi (holds : Option Files) (name : List ℕ) (listed : Listed) : Type 0 where
   pub bytes : Option (List ℕ)
   pub are_told : IfSome holds (λ held. content held name ≡ bytes)
   pub reading : listed ≡ listed_as bytes
+  pub is_so : IsListed bytes listed
 
 -- a file that is absent, or whose bytes are no DVI file
 abbrev pub HasNoPages : Option (List ℕ) → Type 0
-HasNoPages bytes = (pages : List ReadPage) → listed_as bytes ≡ Brings pages → ⊥
+HasNoPages None = Unit {0}
+HasNoPages (Some bytes) = (pages : List ReadPage) → IsDviFile bytes pages → ⊥
 
 -- the words name a DVI file, and that, which is the source's if it tells what it holds, is none
 pub record NamesNoDvi (holds : Option Files) (asked : Option (List ℕ)) : Type 0 where

@@ -1,7 +1,7 @@
 //! A DVI file is fetched and read, and what it brings is said.
 ghost use Rattle.std.specs.Prelude.{◌≡◌, ℕ, ◌∷◌, [], Some, IfOk};
 ghost use Rattle.tx_io.specs.Output.{Say};
-ghost use Rattle.tx_call.specs.Listing.{ReadsDvi, listed_as, said_lines};
+ghost use Rattle.tx_call.specs.Listing.{IsListed, ReadsDvi, listed_as, said_lines};
 ghost use Rattle.tx_call.specs.Outcome.{listing};
 ghost use Rattle.tx_call.specs.Trouble.{Does, EditCauses, PutsOut, SinkCauses, SourceCauses};
 ghost use Rattle.tx_call.specs.declared.listed.Listed.TheVariants.{Brings};
@@ -18,7 +18,8 @@ use tx_io::{Fetched, Sink, Source};
 
 /// Reads the bytes of a file as those of a DVI file.
 fn read_dvi(alloc: Global, bytes: &[u8]) -> Result<Listed, AllocError>
-    ensures { IfOk result (λ listed. listed ≡ listed_as (Some bytes.now)) }
+    ensures read { IfOk result (λ listed. listed ≡ listed_as (Some bytes.now)) }
+    ensures is { IfOk result (λ listed. IsListed (Some bytes.now) listed) }
 {
     match Reader::read(alloc, bytes) {
         Ok(pages) => Ok(Listed::Brings(pages)),

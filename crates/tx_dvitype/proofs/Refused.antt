@@ -4,10 +4,10 @@ use Rattle.tx_dvitype.specs.declared.reader.ReadPage.{ReadPage}
 use Rattle.tx_dvitype.specs.declared.reader.Reader.{Reader}
 use Rattle.tx_dvitype.specs.Files.{Broken, taken, is_done, stopped, going_on, rest_read, at_start, dvi_file}
 
-abbrev Read : Type 0
+abbrev pub Read : Type 0
 Read = Result (List ReadPage) Broken
 
-abbrev place_or : ℕ → Read → ℕ
+abbrev pub place_or : ℕ → Read → ℕ
 place_or place (Ok pages) = place
 place_or place (Err broken) = broken.place
 

@@ -1,39 +1,45 @@
--- That an assembled file is read back: its pages, and what their commands bring.
-use Rattle.std.specs.Prelude.{◌≡◌, ℕ, List, [], ◌∷◌, ◌++◌, length, map, fold, Option, Some, None, FitsSigned}
+-- That an assembled file is one, by the commands of its pages; and what the commands of the pages of a file mean.
+use Rattle.std.specs.Prelude.{◌≡◌, ℕ, List, [], ◌∷◌, ◌++◌, length, map, Some, FitsSigned}
 use Rattle.std.specs.Int.{w32}
 use Rattle.std.specs.List.{All}
 use Rattle.tx_dvitype.specs.declared.reader.ReadPage.{ReadPage}
-use Rattle.tx_dvi.specs.Dvi.{definition_bytes}
-use Rattle.tx_dvitype.specs.Files.{with_definition}
-use Rattle.tx_dvi.specs.Meaning.{Contents, Reader as PageReader, all_met, page_start}
+use Rattle.tx_dvitype.specs.Grammar.{AreBytes, Command, Lead, PageText, commands_bytes, fonts_in}
+use Rattle.tx_dvitype.specs.Partial.{no_widths}
+use Rattle.tx_dvi.specs.declared.font.FontDefinition.{FontDefinition}
+use Rattle.tx_dvi.specs.declared.placed.Placed.{Placed}
+use Rattle.tx_dvi.specs.Meaning.{Contents, Reader, meaning, page_start}
 use Rattle.tx_dvi.specs.Page.{Page}
-use Rattle.tx_dvitype.specs.Partial.{read_within}
 
--- one byte more of the commands of a page, with the bytes of the definitions so far
-abbrev pub gone_along : List ℕ → List (List ℕ) → Option PageReader → Option (PageReader × List (List ℕ))
-gone_along bytes definitions None = None
-gone_along bytes definitions (Some r) = Some (r, with_definition bytes definitions)
-
-abbrev pub along : Option (PageReader × List (List ℕ)) → ℕ → Option (PageReader × List (List ℕ))
-along None byte = None
-along (Some s) byte = gone_along (s.0.begun ++ byte ∷ []) s.1 (read_within s.0 byte)
-
--- The commands of a page may stand on one, where fonts of these numbers are defined; none leads too far, they define the fonts of the
--- page, and bring this. It has ten numbers of 32 bits.
-pub record IsReadable (known : List ℕ) (page : Page) (contents : Contents) : Type 0 where
-  pub behind : PageReader
-  pub reads : (definitions : List (List ℕ)) → fold along (Some (page_start known, definitions)) page.body ≡ Some (behind, definitions ++ map definition_bytes page.fonts)
-  pub brings : all_met (Some behind) ≡ Some contents
+-- The body of a page are commands that may stand on one, where fonts of these numbers are defined. They define the fonts of the page, and
+-- this is met on it. It has ten numbers of 32 bits.
+pub record IsReadable (known : List ℕ) (page : Page) (placed : List Placed) : Type 0 where
+  pub commands : List Command
+  pub end : Reader
+  pub are_bytes : AreBytes page.body
+  pub body : page.body ≡ commands_bytes commands
+  pub lead : Lead commands (page_start known) end
+  pub level : end.stack ≡ []
+  pub fonts : page.fonts ≡ fonts_in commands
+  pub met : placed ≡ end.met
   pub ten : length page.counts ≡ 10
   pub counts : All (FitsSigned w32) page.counts
 
 -- so page after page
-abbrev pub AreReadable : List ℕ → List Page → List Contents → Type 0
+abbrev pub AreReadable : List ℕ → List Page → List (List Placed) → Type 0
 AreReadable known [] [] = Unit {0}
-AreReadable known (page ∷ pages) (contents ∷ others) = (readable : IsReadable known page contents) × AreReadable readable.behind.fonts.known pages others
+AreReadable known (page ∷ pages) (placed ∷ others) = (readable : IsReadable known page placed) × AreReadable readable.end.fonts.known pages others
 AreReadable known _ _ = ⊥
 
 -- what is read of them
-abbrev pub read_pages : List Page → List Contents → List ReadPage
-read_pages (page ∷ pages) (contents ∷ others) = record { counts = page.counts; placed = contents.placed } ∷ read_pages pages others
+abbrev pub read_pages : List Page → List (List Placed) → List ReadPage
+read_pages (page ∷ pages) (placed ∷ others) = record { counts = page.counts; placed = placed } ∷ read_pages pages others
 read_pages _ _ = []
+
+-- What is read of pages is what their commands mean to a reader of DVI files, where characters have no width and the fonts of the pages
+-- before each are defined.
+abbrev pub AreMeant : List ℕ → List PageText → List ReadPage → Type 0
+AreMeant known [] [] = Unit {0}
+AreMeant known (page ∷ pages) (read ∷ others) =
+    (contents : Contents) × (meaning no_widths known (commands_bytes page.commands) ≡ Some contents) × (read.placed ≡ contents.placed)
+    × AreMeant (known ++ map (λ (font : FontDefinition). font.number) contents.fonts) pages others
+AreMeant known _ _ = ⊥

@@ -1,9 +1,12 @@
 //! DVI files read, as Knuth's DVItype does it (the DVI standard; TeX: The Program, sections 583 to 591): the pages of such a
 //! file, each with its numbers and what is met on it.
 //!
-//! Proved: what is read of a file is its pages, or the place and the element at which it is refused, exactly as defined byte
-//! by byte; a refusal depends on the bytes up to the one that is refused alone; what is read of a page is what its commands
-//! mean; and a file that is assembled of pages is read back, if the commands of each page can be read.
+//! `specs/Grammar.antt` says which bytes are a DVI file, which pages it brings, and what the refusal of any others names.
+//!
+//! Proved: exactly the files of the grammar are read, each with the pages that it brings, and a refusal names the furthest
+//! place up to which the bytes begin a file, and the element that comes there; a refusal depends on the bytes up to the one
+//! that is refused alone; what is read of a page is what its commands mean; and a file that is assembled of pages is one, if
+//! the commands of each page may stand on one.
 //!
 //! Read `error`, `movement`, `page_reader` and `reader`, then `laws`.
 #![tactic(auto)]

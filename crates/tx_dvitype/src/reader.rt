@@ -1,10 +1,12 @@
 //! The reader of DVI files (the DVI standard; TeX: The Program, sections 583 to 591): what `assemble` writes is read back, and
 //! so is each file of the same commands.
-ghost use Rattle.std.specs.Prelude.{◌≡◌, ◌+◌, ◌*◌, ◌%◌, ◌≤◌, ◌∷◌, ◌++◌, length, Ok, IfOk, IfErr, OnOk};
+ghost use Rattle.std.specs.Prelude.{◌≡◌, ◌+◌, ◌*◌, ◌%◌, ◌≤◌, ◌∷◌, ◌++◌, List, length, Ok, IfOk, IfErr, OnOk};
 ghost use Rattle.tx_dvi.specs.Dvi.{format_number};
 ghost use Rattle.tx_dvitype.specs.Files as spec;
 ghost use Rattle.tx_dvitype.specs.Files.{IsCause};
+ghost use Rattle.tx_dvitype.specs.Grammar.{IsDviFile, IsNoFile};
 ghost use Rattle.tx_dvitype.specs.Partial.{gone};
+ghost use Rattle.tx_dvitype.specs.declared.reader.ReadPage.{ReadPage};
 
 use crate::error::{DviError, DviRule};
 use crate::page_reader::{Gone, PageReader};
@@ -484,6 +486,9 @@ impl Reader {
     pub fn read(alloc: Global, bytes: &[u8]) -> Result<Items<ReadPage>, DviError>
         ensures read { IfOk result (λ pages. spec.dvi_file bytes.now ≡ Ok pages) }
         ensures refused { IfErr result (IsCause (spec.dvi_file bytes.now)) }
+        ensures file { IfOk result (λ pages. IsDviFile bytes.now pages) }
+        ensures only { IfOk result (λ pages. (others : List ReadPage) → IsDviFile bytes.now others → pages ≡ others) }
+        ensures none { IfErr result (λ e. IsNoFile bytes.now e) }
     {
         let mut reader = Reader::new(alloc);
         reader.take_pages(alloc, bytes)
