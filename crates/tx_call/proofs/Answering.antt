@@ -19,7 +19,7 @@ use Rattle.tx_session.specs.Held.{fresh, transcript}
 use Rattle.tx_session.specs.Pages.{page_of, piece_of}
 use Rattle.tx_session.specs.Standing.{now}
 use Rattle.tx_call.specs.declared.trouble.Trouble.{Trouble}
-use Rattle.tx_call.specs.Answers.{Event, Answered, Wanting, answer_to, changes_of, edit_wanting, most_changes, nothing, saved_answer, wanting}
+use Rattle.tx_call.specs.Answers.{Event, Answered, Wanting, answer_to, came, changes_of, edit_wanting, most_changes, nothing, saved_answer, wanting}
 use Rattle.tx_call.specs.Hearing.{Answers}
 use Rattle.tx_call.specs.Lines.{bytes_text, log_head, memory_line, page_head, page_memory_line}
 use Rattle.tx_call.specs.Replay.{IsEdit}
@@ -103,15 +103,14 @@ module _ {S : Type 0} (m : Formatter S) {T : Type 0} where
       → wanting t r ≡ Some (edit_wanting t) → t' ≡ record t { edits = t.edits + 1 } → PutsOut result before (Say (memory_line (t.edits + 1)) ∷ []) after → steps' ≤ raised steps (answer_to m t r).turns
       → Answers m r result t t' before after steps steps'
   wanting-told (Ok value) r {t = t} {before = before} is counted puts most =
-      let comes : (record (unwrap_or (wanting t r) (nothing t)) { turns = (answer_to m t r).turns }) ≡ (record (edit_wanting t) { turns = (answer_to m t r).turns }) =
-      ap (λ (e : Option Effect). record (unwrap_or e (nothing t)) { turns = (answer_to m t r).turns }) is in
+      let told_is : came m t (Wanting r) ≡ record (edit_wanting t) { turns = (answer_to m t r).turns } = λ i. record (unwrap_or (is i) (nothing t)) { turns = (answer_to m t r).turns } in
       record {
         event = Wanting r;
         asked = refl;
         may_come = λ none. absurd (let no : Some (edit_wanting t) ≡ None = sym is ∙ none in cc);
         comes = record {
-          sitting_is = counted ∙ ap (λ (e : Effect). e.behind) (sym comes);
-          output_is = puts ∙ ap (λ (e : Effect). told before e.pieces) (sym comes);
+          sitting_is = counted ∙ ap (λ (e : Effect). e.behind) (sym told_is);
+          output_is = puts ∙ ap (λ (e : Effect). told before e.pieces) (sym told_is);
           most = most;
           steps_are = λ never. absurd never;
         };
