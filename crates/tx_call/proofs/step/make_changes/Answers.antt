@@ -1,5 +1,4 @@
-use Rattle.std.proofs.Common.{◌≡◌, List, Some, Err, true, false, ap, subst}
-use Rattle.tx_files.specs.Changes.{all_fit, first_outside}
+use Rattle.std.proofs.Common.{◌≡◌, Err, refl, ap, subst}
 use Rattle.tx_session.specs.Refusals.{IsBatchAnswer, IsOutside}
 use Rattle.tx_session.specs.Standing.{Standing, now}
 use Rattle.tx_session.specs.declared.refusal.Refusal.{Refusal}
