@@ -19,7 +19,7 @@ use Rattle.tx_session.specs.Held.{fresh, transcript}
 use Rattle.tx_session.specs.Pages.{page_of, piece_of}
 use Rattle.tx_session.specs.Standing.{now}
 use Rattle.tx_call.specs.declared.trouble.Trouble.{Trouble}
-use Rattle.tx_call.specs.Answers.{Event, Answered, Wanting, answer_to, came, changes_of, edit_wanting, most_changes, nothing, saved_answer, wanting}
+use Rattle.tx_call.specs.Answers.{Answered, Wanting, answer_to, came, changes_of, edit_wanting, most_changes, nothing, saved_answer, wanting}
 use Rattle.tx_call.specs.Hearing.{Answers}
 use Rattle.tx_call.specs.Lines.{bytes_text, log_head, memory_line, page_head, page_memory_line}
 use Rattle.tx_call.specs.Replay.{IsEdit}

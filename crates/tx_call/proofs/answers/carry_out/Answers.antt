@@ -1,7 +1,7 @@
-use Rattle.std.proofs.Common.{◌≡◌, ◌≤◌, ◌+◌, ap, arith}
+use Rattle.std.proofs.Common.{◌≡◌, ◌+◌, ap, arith}
 use Rattle.tx_call.specs.declared.tally.Tally.{Tally}
 use Rattle.tx_call.specs.Answers.{most_changes}
-use Rattle.tx_call.specs.Sitting.{Sitting, ComesToNothing, effect}
+use Rattle.tx_call.specs.Sitting.{Sitting, effect}
 use Rattle.tx_call.specs.Tally.{sitting}
 use Rattle.tx_call.proofs.Answering.{carried-out, carried-out-in-part, command-wanting}
 use Rattle.tx_call.proofs.Stepping.{ok-so, went, wanted}
@@ -17,8 +17,8 @@ returns-in-Done-clause-answers g c =
     (g.K.Sink.output c.args.sink.now) (g.K.Sink.output c.step.new.sink) c.args.steps.now c.step.new.steps c.in-Done.is c.in_ok-step.ensures.goes)
     c.tell_saved.ensures.puts
 
-pub tell_wanting-requires-in-Wanting : goal.tell_wanting-requires-in-Wanting
-tell_wanting-requires-in-Wanting g c =
+pub tell_wanting-requires : goal.tell_wanting-requires
+tell_wanting-requires g c =
     let nothing = wanted c.in_ok-step.field-0 (effect g.M.Machine.formatter most_changes (sitting c.args.live.now c.args.tally.now) c.args.command.now) (sitting c.args.live.now c.args.tally.now) (sitting c.step.new.document c.step.new.tally)
     (g.K.Sink.output c.args.sink.now) (g.K.Sink.output c.step.new.sink) c.args.steps.now c.step.new.steps c.in-Wanting.is c.in_ok-step.ensures.goes in
     let same : c.step.new.tally.edits ≡ c.args.tally.now.edits = ap (λ (t : Sitting). t.edits) nothing.sitting_is in

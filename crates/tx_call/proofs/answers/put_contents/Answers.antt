@@ -1,7 +1,5 @@
-use Rattle.std.proofs.Common.{◌≡◌, ◌≤◌, ◌+◌, ap, arith, ◌∙◌, false}
-use Rattle.std.specs.Prelude.{Option}
+use Rattle.std.proofs.Common.{◌≡◌, ◌+◌, ap, arith, ◌∙◌, false}
 use Rattle.tx_differing.specs.Differing.{edit_to}
-use Rattle.tx_files.specs.declared.edit.Edit.{Edit}
 use Rattle.tx_session.specs.Standing.{now}
 use Rattle.tx_call.specs.declared.tally.Tally.{Tally}
 use Rattle.tx_call.specs.Answers.{changes_of, most_changes}

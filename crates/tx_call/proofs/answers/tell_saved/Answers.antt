@@ -1,5 +1,4 @@
-use Rattle.std.proofs.Common.{◌≡◌, ◌∷◌, List, ℕ, [], refl, rules, sym, ap, subst, ◌∙◌}
-use Rattle.std.specs.Prelude.{IsErr}
+use Rattle.std.proofs.Common.{◌≡◌, ◌∷◌, List, ℕ, [], refl, sym, ap, subst, ◌∙◌}
 use Rattle.tx_io.specs.Output.{Piece, Say, told}
 use Rattle.tx_io.proofs.CutShort.{cut-nothing}
 use Rattle.tx_script.specs.declared.command.Command.{Command}

@@ -1,7 +1,6 @@
-use Rattle.std.proofs.Common.{◌≡◌, ◌≤◌, ◌+◌, ap, arith, ◌∙◌}
-use Rattle.tx_machine.specs.Steps.{raised}
+use Rattle.std.proofs.Common.{◌≡◌, ap, arith}
 use Rattle.tx_session.specs.Standing.{settled}
-use Rattle.tx_call.specs.Sitting.{Sitting, Comes, effect}
+use Rattle.tx_call.specs.Sitting.{Sitting, effect}
 use Rattle.tx_call.specs.Tally.{moment, sitting}
 use Rattle.tx_call.proofs.Stepping.{went, wanted, script-moment, script-puts, script-takes, script-fully, script-cut, script-most, refused-puts, refused-most}
 use Rattle.tx_call.proofs.replay.run_command.Goals as goal
@@ -37,8 +36,8 @@ returns-in-Done-clause-most g c =
     (went c.in_ok-step.field-0 (effect g.M.Machine.formatter 0 (sitting (settled c.args.session.now) c.args.tally.now) c.args.command.now) (sitting (settled c.args.session.now) c.args.tally.now) (sitting (settled c.step.new.document) c.step.new.tally)
     (g.K.Sink.output c.args.sink.now) (g.K.Sink.output c.step.new.sink) c.args.steps.now c.step.new.steps c.in-Done.is c.in_ok-step.ensures.goes)
 
-pub tell_refusal-requires-in-Wanting : goal.tell_refusal-requires-in-Wanting
-tell_refusal-requires-in-Wanting g c =
+pub tell_refusal-requires : goal.tell_refusal-requires
+tell_refusal-requires g c =
     let nothing = wanted c.in_ok-step.field-0 (effect g.M.Machine.formatter 0 (sitting (settled c.args.session.now) c.args.tally.now) c.args.command.now) (sitting (settled c.args.session.now) c.args.tally.now) (sitting (settled c.step.new.document) c.step.new.tally)
     (g.K.Sink.output c.args.sink.now) (g.K.Sink.output c.step.new.sink) c.args.steps.now c.step.new.steps c.in-Wanting.is c.in_ok-step.ensures.goes in
     let same : c.step.new.tally.edits ≡ c.args.tally.now.edits = ap (λ (t : Sitting). t.edits) nothing.sitting_is in

@@ -1,5 +1,4 @@
-use Rattle.std.proofs.Common.{◌≡◌, List, ap, subst, sym, ◌∙◌}
-use Rattle.tx_files.specs.declared.edit.Change.{Change}
+use Rattle.std.proofs.Common.{true, false, ap, subst, sym, ◌∙◌}
 use Rattle.tx_call.specs.Replay.{IsEdit}
 use Rattle.tx_call.specs.Sitting.{Effect, Goes, edit_effect, effect}
 use Rattle.tx_call.specs.Tally.{sitting}
