@@ -36,8 +36,8 @@ returns-in-Done-clause-most g c =
     (went c.in_ok-step.field-0 (effect g.M.Machine.formatter 0 (sitting (settled c.args.session.now) c.args.tally.now) c.args.command.now) (sitting (settled c.args.session.now) c.args.tally.now) (sitting (settled c.step.new.document) c.step.new.tally)
     (g.K.Sink.output c.args.sink.now) (g.K.Sink.output c.step.new.sink) c.args.steps.now c.step.new.steps c.in-Done.is c.in_ok-step.ensures.goes)
 
-pub tell_refusal-requires : goal.tell_refusal-requires
-tell_refusal-requires g c =
+pub tell_refusal-told-requires : goal.tell_refusal-told-requires
+tell_refusal-told-requires g c =
     let nothing = wanted c.in_ok-step.field-0 (effect g.M.Machine.formatter 0 (sitting (settled c.args.session.now) c.args.tally.now) c.args.command.now) (sitting (settled c.args.session.now) c.args.tally.now) (sitting (settled c.step.new.document) c.step.new.tally)
     (g.K.Sink.output c.args.sink.now) (g.K.Sink.output c.step.new.sink) c.args.steps.now c.step.new.steps c.in-Wanting.is c.in_ok-step.ensures.goes in
     let same : c.step.new.tally.edits ≡ c.args.tally.now.edits = ap (λ (t : Sitting). t.edits) nothing.sitting_is in
