@@ -252,6 +252,10 @@ early asked serving is status (inr five) refused = inr five
 pub refuses-short : (result : Result ℕ Break) (trouble : Trouble) (before after : Option Output) → IsErrAnd result (λ e. e ≡ breaks.Trouble trouble) → Refuses (Err (breaks.Trouble trouble)) before after → Refuses result before after
 refuses-short result trouble before after err cut = on-err result (breaks.Trouble trouble) (λ r. Refuses r before after) err cut
 
+pub refused-range : (result : Result ℕ Break) (before after : Option Output) → Refuses result before after → IfOk result (λ status. (status ≤ 2) ⊎ (status ≡ 5))
+refused-range (Ok status) before after refuses = inl (omega (arith, refuses.0))
+refused-range (Err e) before after refuses = tt
+
 -- what is so of each value is so of that of a result
 pub if-any : {T E : Type 0} (result : Result T E) (IsSo : T → Type 0) → ((value : T) → IsSo value) → IfOk result IsSo
 if-any (Ok value) IsSo so = so value

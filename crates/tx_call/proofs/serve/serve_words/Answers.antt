@@ -8,7 +8,7 @@ use Rattle.tx_words.specs.Words.{words_meant, texts}
 use Rattle.tx_words.specs.declared.given.Asked.TheVariants.{Serve}
 use Rattle.tx_words.specs.declared.given.Serving.{Serving}
 use Rattle.tx_call.proofs.Held.{for_any}
-use Rattle.tx_call.proofs.ServedFiles.{served-nothing, serves-short, serves-none, serves-this, asks-for-none, refuses-short, if-any, causes-served, never-source, never-inlet}
+use Rattle.tx_call.proofs.ServedFiles.{served-nothing, serves-short, serves-none, serves-this, asks-for-none, refuses-short, refused-range, if-any, causes-served, never-source, never-inlet}
 use Rattle.tx_call.proofs.serve.serve_words.Goals as goal
 
 pub returns-in_err-serving-clause-serves : goal.returns-in_err-serving-clause-serves
@@ -48,6 +48,9 @@ returns-in_default-clause-serves g c =
 
 pub returns-in_default-clause-refuses : goal.returns-in_default-clause-refuses
 returns-in_default-clause-refuses g c = λ none. (c.refuse_words.ensures.refuses, refl)
+
+pub returns-in_default-clause-range : goal.returns-in_default-clause-range
+returns-in_default-clause-range g c = refused-range c.refuse_words.result (g.K.Sink.output c.args.sink.now) (g.K.Sink.output c.refuse_words.new.sink) c.refuse_words.ensures.refuses
 
 pub returns-in_default-clause-refused : goal.returns-in_default-clause-refused
 returns-in_default-clause-refused g c =
