@@ -132,10 +132,9 @@ module _ {S : Type 0} (m : Formatter S) (held : Held) where
   }
 
   -- trouble ended a call
-  pub serves-short : (result : Result ℕ Break) (trouble : Trouble) {left : Option (List ℕ)} {before after : Option Output} {steps steps' : ℕ}
+  pub serves-short : (result : Result ℕ Break) (trouble : Trouble) (left : Option (List ℕ)) (before after : Option Output) (steps steps' : ℕ)
       → IsErrAnd result (λ e. e ≡ breaks.Trouble trouble) → IsServedInPart m held left before after steps steps' → ServesFiles m held left result before after steps steps'
-  serves-short result trouble {left = left} {before = before} {after = after} {steps = steps} {steps' = steps'} err part =
-      on-err result (breaks.Trouble trouble) (λ r. ServesFiles m held left r before after steps steps') err part
+  serves-short result trouble left before after steps steps' err part = on-err result (breaks.Trouble trouble) (λ r. ServesFiles m held left r before after steps steps') err part
 
   -- a document that was opened, of which nothing was made yet
   module _ (standing : Standing) (is : standing ≡ settled held) where

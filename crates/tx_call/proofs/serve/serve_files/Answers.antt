@@ -10,17 +10,18 @@ use Rattle.tx_call.proofs.serve.serve_files.Goals as goal
 
 pub returns-in_err-main-clause-serves : goal.returns-in_err-main-clause-serves
 returns-in_err-main-clause-serves g c =
-    serves-short g.M.Machine.formatter (served c.args.serving.now c.args.files) c.from_residual.result Memory c.from_residual.ensures.1 (served-nothing g.M.Machine.formatter (served c.args.serving.now c.args.files) refl refl)
+    serves-short g.M.Machine.formatter (served c.args.serving.now c.args.files) c.from_residual.result Memory (g.I.Inlet.left c.args.inlet.now) (g.K.Sink.output c.args.sink.now) (g.K.Sink.output c.args.sink.now) c.args.steps.now c.args.steps.now
+    c.from_residual.ensures.1 (served-nothing g.M.Machine.formatter (served c.args.serving.now c.args.files) refl refl)
 
 pub returns-in_err-live-clause-serves : goal.returns-in_err-live-clause-serves
 returns-in_err-live-clause-serves g c =
-    serves-short g.M.Machine.formatter (served c.args.serving.now c.args.files) c.from_residual-in_err-live.result Memory c.from_residual-in_err-live.ensures.1
+    serves-short g.M.Machine.formatter (served c.args.serving.now c.args.files) c.from_residual-in_err-live.result Memory (g.I.Inlet.left c.args.inlet.now) (g.K.Sink.output c.args.sink.now) (g.K.Sink.output c.args.sink.now) c.args.steps.now c.open.new.steps c.from_residual-in_err-live.ensures.1
     (served-none g.M.Machine.formatter (served c.args.serving.now c.args.files) (cut-nothing _ _) (search rules))
 
 pub returns-in_err-say_run-clause-serves : goal.returns-in_err-say_run-clause-serves
 returns-in_err-say_run-clause-serves g c =
     let is : c.in_ok-live.live ≡ settled (served c.args.serving.now c.args.files) = search rules in
-    serves-short g.M.Machine.formatter (served c.args.serving.now c.args.files) c.from_residual-in_err-say_run.result c.in_err-say_run.field-0.0 c.from_residual-in_err-say_run.ensures.1
+    serves-short g.M.Machine.formatter (served c.args.serving.now c.args.files) c.from_residual-in_err-say_run.result c.in_err-say_run.field-0.0 (g.I.Inlet.left c.args.inlet.now) (g.K.Sink.output c.args.sink.now) (g.K.Sink.output c.say_run.new.sink) c.args.steps.now c.open.new.steps c.from_residual-in_err-say_run.ensures.1
     (line-cut g.M.Machine.formatter (served c.args.serving.now c.args.files) c.in_ok-live.live is c.in_err-say_run.ensures.puts c.in_ok-live.ensures.counted)
 
 pub returns-in_err-tally-clause-serves : goal.returns-in_err-tally-clause-serves

@@ -11,7 +11,8 @@ use Rattle.tx_call.proofs.serve.serve_listed.Goals as goal
 pub returns-in_err-files-clause-serves : goal.returns-in_err-files-clause-serves
 returns-in_err-files-clause-serves g c =
     for_any _
-    (λ held. serves-short g.M.Machine.formatter (serving_held c.args.serving.now held) c.from_residual.result c.in_err-files.field-0.0 c.from_residual.ensures.1 (served-nothing g.M.Machine.formatter (serving_held c.args.serving.now held) refl refl))
+    (λ held. serves-short g.M.Machine.formatter (serving_held c.args.serving.now held) c.from_residual.result c.in_err-files.field-0.0 (g.I.Inlet.left c.args.inlet.now) (g.K.Sink.output c.args.sink.now) (g.K.Sink.output c.args.sink.now) c.args.steps.now c.args.steps.now
+    c.from_residual.ensures.1 (served-nothing g.M.Machine.formatter (serving_held c.args.serving.now held) refl refl))
 
 pub returns-in_err-files-clause-silent : goal.returns-in_err-files-clause-silent
 returns-in_err-files-clause-silent g c = λ source. record { output_is = refl; steps_are = refl }

@@ -1,4 +1,4 @@
-use Rattle.std.proofs.Common.{◌≡◌, refl, rules, sym}
+use Rattle.std.proofs.Common.{◌≡◌, ℕ, refl, rules, sym}
 use Rattle.tx_io.proofs.CutShort.{cut-nothing}
 use Rattle.tx_call.specs.Hearing.{ServesFiles}
 use Rattle.tx_call.specs.Outcome.{ForHeld}
@@ -13,7 +13,8 @@ use Rattle.tx_call.proofs.serve.serve_words.Goals as goal
 
 pub returns-in_err-serving-clause-serves : goal.returns-in_err-serving-clause-serves
 returns-in_err-serving-clause-serves g c = λ serving is.
-    for_any _ (λ held. serves-short g.M.Machine.formatter (serving_held serving held) c.from_residual.result Memory c.from_residual.ensures.1 (served-nothing g.M.Machine.formatter (serving_held serving held) refl refl))
+    for_any _ (λ held. serves-short g.M.Machine.formatter (serving_held serving held) c.from_residual.result Memory (g.I.Inlet.left c.args.inlet.now) (g.K.Sink.output c.args.sink.now) (g.K.Sink.output c.args.sink.now) c.args.steps.now c.args.steps.now
+    c.from_residual.ensures.1 (served-nothing g.M.Machine.formatter (serving_held serving held) refl refl))
 
 pub returns-in_err-serving-clause-refuses : goal.returns-in_err-serving-clause-refuses
 returns-in_err-serving-clause-refuses g c = λ none. (refuses-short c.from_residual.result Memory (g.K.Sink.output c.args.sink.now) (g.K.Sink.output c.args.sink.now) c.from_residual.ensures.1 (cut-nothing _ _), refl)
@@ -55,7 +56,7 @@ returns-in_default-clause-range g c = refused-range c.refuse_words.result (g.K.S
 pub returns-in_default-clause-refused : goal.returns-in_default-clause-refused
 returns-in_default-clause-refused g c =
     let none : AsksForNone (words_meant (texts c.args.words.now)) = asks-for-none _ (words_meant (texts c.args.words.now)) c.in_ok-serving.ensures.asked c.in_default.not-Serve in
-    if-any c.refuse_words.result _ (λ status two. none)
+    if-any c.refuse_words.result (λ (status : ℕ). status ≡ 2 → AsksForNone (words_meant (texts c.args.words.now))) (λ status two. none)
 
 pub returns-in_default-clause-fetched : goal.returns-in_default-clause-fetched
 returns-in_default-clause-fetched g c = λ source. absurd (never-source c.refuse_words.result 0 0 (g.K.Sink.faults c.args.sink.now) (g.K.Sink.faults c.refuse_words.new.sink) (c.refuse_words.ensures.causes 0) source)
