@@ -9,6 +9,7 @@ pub mod Chains
 pub mod SaidLines
 pub mod Dvi
 pub mod Agreeing
+pub mod Stepping
 pub mod Answering
 pub mod OneHeard
 pub mod HeardSoFar
