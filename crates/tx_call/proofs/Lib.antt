@@ -11,7 +11,9 @@ pub mod Dvi
 pub mod Agreeing
 pub mod Stepping
 pub mod Answering
+pub mod OneHeard
 pub mod HeardSoFar
 pub mod ServedFiles
+pub mod Unasked
 pub mod Changing
 pub mod RequestBounds
