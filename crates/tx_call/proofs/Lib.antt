@@ -15,5 +15,6 @@ pub mod OneHeard
 pub mod HeardSoFar
 pub mod ServedFiles
 pub mod Unasked
+pub mod Causing
 pub mod Changing
 pub mod RequestBounds
