@@ -1,5 +1,5 @@
 -- Trouble of a part is that of the whole, with the faults that it counted.
-use Rattle.std.proofs.Common.{◌≡◌, ℕ, Result, Ok, Err, refl, subst}
+use Rattle.std.proofs.Common.{◌≡◌, ℕ, Result, Err, refl, subst}
 use Rattle.std.specs.Prelude.{IsErrAnd}
 use Rattle.tx_call.specs.declared.trouble.Trouble.{Trouble}
 use Rattle.tx_call.specs.declared.trouble.Trouble.TheVariants.{Memory, Source, Sink}

@@ -1,5 +1,5 @@
 //! The answers of a document that is served, each to one request.
-ghost use Rattle.std.specs.Prelude.{◌≡◌, ◌∷◌, [], false, ◌+◌, ◌<◌, ◌≤◌, ◌⊎◌, ◌^◌, option_copied, IfOk, OnOk};
+ghost use Rattle.std.specs.Prelude.{◌≡◌, ◌∷◌, [], false, ◌+◌, ◌<◌, ◌≤◌, ◌⊎◌, ◌^◌, option_copied, OnOk};
 ghost use Rattle.tx_io.specs.Output.{Say};
 ghost use Rattle.tx_session.specs.Held.{fresh};
 ghost use Rattle.tx_session.specs.Pages.{page_of, piece_of};

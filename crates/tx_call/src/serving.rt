@@ -1,5 +1,5 @@
 //! What comes in is answered, one request after the other.
-ghost use Rattle.std.specs.Prelude.{◌≡◌, ◌∷◌, [], ◌+◌, ◌<◌, ◌≤◌, ◌^◌, OnOk};
+ghost use Rattle.std.specs.Prelude.{◌∷◌, [], ◌+◌, ◌<◌, ◌≤◌, ◌^◌, OnOk};
 ghost use Rattle.tx_io.specs.Output.{Say};
 ghost use Rattle.tx_call.specs.Hearing.{BreakCauses, Hears, Serves};
 ghost use Rattle.tx_call.specs.Lines.{request_refusal_line as refusal_text};
