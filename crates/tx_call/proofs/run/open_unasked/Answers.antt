@@ -1,11 +1,26 @@
-use Rattle.std.proofs.Common.{◌≡◌, false, rules}
+use Rattle.std.proofs.Common.{◌≡◌, ℕ, false, Result, Err, rules}
+use Rattle.std.specs.Prelude.{IsErrAnd}
 use Rattle.tx_session.specs.Held.{fresh}
-use Rattle.tx_call.specs.declared.trouble.Trouble.TheVariants.{Memory}
+use Rattle.tx_call.specs.declared.trouble.Interruption.{Interruption}
+use Rattle.tx_call.specs.declared.trouble.Interruption.TheVariants.{Trouble as Interrupted}
+use Rattle.tx_call.specs.declared.trouble.Trouble.{Trouble}
+use Rattle.tx_call.specs.declared.trouble.Trouble.TheVariants.{Memory, Source, Sink}
 use Rattle.tx_call.specs.Outcome.{served, unasked_outcome}
 use Rattle.tx_call.specs.Replay.{status_after}
+use Rattle.tx_call.specs.Trouble.{EditCauses, SinkCauses}
 use Rattle.tx_call.proofs.Held.{does_nothing, puts_nothing}
+use Rattle.tx_call.proofs.Replayed.{on-err}
 use Rattle.tx_call.proofs.Unasked.{line-said, line-short}
 use Rattle.tx_call.proofs.run.open_unasked.Goals as goal
+
+-- trouble with memory or the sink ended a call
+ends-by : (T : Type 0) (result : Result ℕ Interruption) (trouble : Trouble) (sink sink' : ℕ) → IsErrAnd result (λ e. e ≡ Interrupted trouble) → SinkCauses {T = T} (Err trouble) sink sink' → EditCauses result sink sink'
+ends-by T result trouble sink sink' err causes = on-err result (Interrupted trouble) (λ r. EditCauses r sink sink') err (by trouble causes)
+  where
+    by : (trouble : Trouble) → SinkCauses {T = T} (Err trouble) sink sink' → EditCauses {T = ℕ} (Err (Interrupted trouble)) sink sink'
+    by Memory same = same
+    by Source never = absurd never
+    by Sink counted = counted
 
 pub returns-in_err-main-clause-does : goal.returns-in_err-main-clause-does
 returns-in_err-main-clause-does g c = does_nothing c.from_residual.result Memory c.from_residual.ensures.1 _ _ _
@@ -25,3 +40,7 @@ returns-clause-does g c =
     let is : c.in_ok-session.session ≡ served c.args.serving.now c.args.files = search rules in
     let end : c.status_after.result ≡ status_after (fresh g.M.Machine.formatter c.in_ok-session.session).ran.end false = search rules in
     line-said g.M.Machine.formatter c.args.serving.now c.args.files c.in_ok-session.session is c.status_after.result c.in_ok-say_run.ensures.puts c.in_ok-session.ensures.counted end
+
+pub returns-in_err-say_run-clause-causes : goal.returns-in_err-say_run-clause-causes
+returns-in_err-say_run-clause-causes g c =
+    ends-by (Unit {0}) c.from_residual-in_err-say_run.result c.in_err-say_run.field-0.0 (g.K.Sink.faults c.args.sink.now) (g.K.Sink.faults c.say_run.new.sink) c.from_residual-in_err-say_run.ensures.1 c.in_err-say_run.ensures.causes
