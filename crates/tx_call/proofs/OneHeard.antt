@@ -1,5 +1,5 @@
 -- What came in next was answered, or memory was wanting for that.
-use Rattle.std.proofs.Common.{◌≡◌, ℕ, ◌≤◌, Bool, true, false, inl, inr, List, [], ◌∷◌, Option, Some, None, Result, Ok, Err, refl, sym, subst, arith}
+use Rattle.std.proofs.Common.{◌≡◌, ℕ, ◌≤◌, Bool, true, inr, List, [], ◌∷◌, Option, Some, None, Result, Ok, Err, refl, sym, subst, arith}
 use Rattle.std.specs.Prelude.{IsErrAnd, IfSome}
 use Rattle.tx_io.specs.Output.{Output, Say}
 use Rattle.tx_machine.specs.Machine.{Formatter}

@@ -1,8 +1,8 @@
 -- The line of a run, and then the answers to what came in.
-use Rattle.std.proofs.Common.{◌≡◌, ◌≢◌, ℕ, zero, suc, ◌+◌, ◌≤◌, ◌<◌, ◌⊎◌, inl, inr, List, [], ◌∷◌, ◌++◌, Option, Some, None, Result, Ok, Err, refl, sym, ap, subst, ◌∙◌, arith, append-nil}
+use Rattle.std.proofs.Common.{◌≡◌, ◌≢◌, ℕ, zero, suc, ◌+◌, ◌≤◌, ◌<◌, ◌⊎◌, inl, inr, List, [], ◌∷◌, Option, Some, None, Result, Ok, Err, refl, sym, ap, subst, ◌∙◌, arith, append-nil}
 use Rattle.std.specs.Prelude.{unwrap_or, IfOk, IsErrAnd, IsErrOf}
 use Rattle.tx_bytes.specs.Files.{Files}
-use Rattle.tx_io.specs.Output.{Output, Piece, told}
+use Rattle.tx_io.specs.Output.{Output, told}
 use Rattle.tx_io.specs.Cut.{IsCutShort}
 use Rattle.tx_io.proofs.Told.{told-append}
 use Rattle.tx_io.proofs.CutShort.{cut-nothing, cut-behind}
@@ -16,7 +16,7 @@ use Rattle.tx_call.specs.declared.trouble.Trouble.{Trouble}
 use Rattle.tx_call.specs.declared.trouble.Trouble.TheVariants.{Memory, Source, Sink}
 use Rattle.tx_call.specs.declared.trouble.Break.{Break}
 use Rattle.tx_call.specs.declared.trouble.Break.TheVariants as breaks
-use Rattle.tx_call.specs.Answers.{Event, all_came, begun, begun_at, AllMayCome, AreExact}
+use Rattle.tx_call.specs.Answers.{Event, all_came, begun, begun_at, AllMayCome}
 use Rattle.tx_call.specs.Hearing.{AreReadUpTo, BreakCauses, Heard, HeardInPart, Refuses, ServeCauses, Serves, ServesFiles}
 use Rattle.tx_words.specs.declared.given.Asked.{Asked}
 use Rattle.tx_words.specs.declared.given.Asked.TheVariants.{Serve}

@@ -1,5 +1,5 @@
 -- A document that is served, where nothing comes in, has the line of its run alone.
-use Rattle.std.proofs.Common.{◌≡◌, ℕ, ◌≤◌, false, List, [], ◌∷◌, Option, Result, Ok, subst, arith}
+use Rattle.std.proofs.Common.{◌≡◌, ℕ, ◌≤◌, false, [], ◌∷◌, Option, Result, Ok, subst, arith}
 use Rattle.std.specs.Prelude.{IsErrAnd}
 use Rattle.tx_bytes.specs.Files.{Files}
 use Rattle.tx_io.specs.Output.{Output, told}
