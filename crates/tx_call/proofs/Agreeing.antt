@@ -10,7 +10,7 @@ use Rattle.tx_session.specs.Held.{Held, fresh, changed_session}
 use Rattle.tx_session.specs.Report.{report, turns_of_changes}
 use Rattle.tx_session.specs.Standing.{Standing, now, settled, report_since, turns_since}
 use Rattle.tx_session.proofs.Standings.{now-next_standing}
-use Rattle.tx_call.proofs.NoChanges.{report_since-settled, turns_since-settled}
+use Rattle.tx_session.proofs.Settled.{settled-report, settled-turns}
 use Rattle.tx_call.specs.Answers.{AgreesWithScript, most_changes}
 use Rattle.tx_call.specs.Lines.{edit_line}
 use Rattle.tx_call.specs.Replay as script
@@ -32,7 +32,7 @@ module _ {S : Type 0} (m : Formatter S) (most : ℕ) where
   effect-leads t (Locate at) = refl
 
   line-says : (t : Moment) (together : Bool) (changes : List Change) (first : Option (ℕ × ℕ)) → line_by m (sitting_at t) together changes first ≡ script.line_by m t together changes first
-  line-says t together changes None = ap (λ r. edit_line (t.edits + 1) r (fresh m (changed_session t.held changes)).ran.end) (report_since-settled m t.held changes)
+  line-says t together changes None = ap (λ r. edit_line (t.edits + 1) r (fresh m (changed_session t.held changes)).ran.end) (settled-report m t.held changes)
   line-says t together changes (Some first) = refl
 
   edit-says : (t : Moment) (together : Bool) (changes : List Change) → (edit_effect m most (sitting_at t) together changes).pieces ≡ Say (script.line_of m t together changes) ∷ []
@@ -45,8 +45,8 @@ module _ {S : Type 0} (m : Formatter S) (most : ℕ) where
   effect-says t (Locate at) = refl
 
   pub effect-takes : (t : Moment) (c : Command) → (effect m most (sitting_at t) c).turns ≡ turns_at m t c
-  effect-takes t (Lone c) = turns_since-settled m t.held (c ∷ [])
-  effect-takes t (Batch changes) = turns_since-settled m t.held changes
+  effect-takes t (Lone c) = settled-turns m t.held (c ∷ [])
+  effect-takes t (Batch changes) = settled-turns m t.held changes
   effect-takes t (SaveAs name) = refl
   effect-takes t (Locate at) = refl
 

@@ -8,7 +8,6 @@ pub mod Held
 pub mod Chains
 pub mod SaidLines
 pub mod Dvi
-pub mod NoChanges
 pub mod Agreeing
 pub mod Answering
 pub mod HeardSoFar

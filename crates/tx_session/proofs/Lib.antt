@@ -8,4 +8,4 @@ pub mod Standings
 mod Coming
 mod Living
 mod Parts
-mod Settled
+pub mod Settled
