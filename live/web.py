@@ -90,7 +90,7 @@ class Handler(http.server.BaseHTTPRequestHandler):
 
     def answer(self, status, kind, data, **headers):
         self.send_response(status)
-        named = {"Content-Type": kind, "Content-Length": len(data), "Cache-Control": "no-store", "X-Content-Type-Options": "nosniff"}
+        named = {"Content-Type": kind, "Content-Length": len(data), "Cache-Control": "no-store", "X-Content-Type-Options": "nosniff", "Cross-Origin-Resource-Policy": "same-origin"}
         for name, value in (named | {name.replace("_", "-"): value for name, value in headers.items()}).items():
             self.send_header(name, str(value))
         self.end_headers()

@@ -71,8 +71,8 @@ fn write_compared(
 /// - `file NAME`, a file of the source, whose bytes are in the lines behind it: a line that begins with `|` is one of the
 ///   file, and one that begins with `+` stands there without a line feed; `take NAME FILE`, with the bytes of a real file;
 /// - `fails fetch NUMBER`, `fails say NUMBER` and `fails save NUMBER`, calls that fail, by their numbers from 1 on;
-/// - `requests`, behind all files, and in the lines behind it, which are those of a file, what comes in: then the call is one that
-///   serves a document; `fails read NUMBER`, calls of what comes in that fail;
+/// - `requests`, behind all files, of which there is one at least, and in the lines behind it, which are those of a file, what comes
+///   in: then the call is one that serves a document; `fails read NUMBER`, calls of what comes in that fail;
 /// - `given NAME`, a file that was saved by then, which the source has from then on, and `then WORDS`, a further call, in
 ///   their order;
 /// - `saved NAME`, a file of the sink that is shown: one whose name ends with `.dvi` in hexadecimal; `alike NAME OTHER`, two
@@ -207,9 +207,9 @@ fn write_served(
     write!(text, "status {status}\n")
 }
 
-/// What comes in, where a line says that something may.
+/// What comes in, where a line behind the first says that something may.
 fn requests_of(alloc: Global, lines: &str) -> Result<Option<Bytes>, AllocError> {
-    match lines.split_once("requests") {
+    match lines.split_once("\nrequests") {
         None => Ok(None),
         Some((_, behind)) => {
             let mut requests = Bytes::new(alloc);

@@ -2,8 +2,8 @@
 use std::alloc::{AllocError, Global};
 use std::io::{BufRead, BufReader};
 use std::rt::Files;
-use tx_causes::causes::{memory_causes, one, unread_cause, unsaved_cause};
-use tx_causes::serving::{input_cause, served_cause};
+use tx_causes::causes::{one, unread_cause};
+use tx_causes::serving::{answer_cause, input_cause, served_cause, wanting_causes};
 use tx_causes::telling::{tell, tell_all};
 use tx_io::{DirSink, DirSource, FilesRead, StdInlet};
 use tx_machine::CountsTurns;
@@ -34,8 +34,8 @@ fn causes<R: Files + Print, B: BufRead>(
             Some(error) => one(alloc, input_cause(alloc, error)?),
             None => unread_cause(alloc, source),
         },
-        4 => unsaved_cause(alloc, sink),
-        _ => memory_causes(alloc, source, sink),
+        4 => one(alloc, answer_cause(alloc, sink)?),
+        _ => wanting_causes(alloc, source, sink),
     }
 }
 

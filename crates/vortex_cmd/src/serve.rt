@@ -23,7 +23,7 @@ use tx_main::Tex;
 /// |---|---|
 /// | 0, 1 | all that came in was answered, and the last run ended by the end of its text, or otherwise |
 /// | 2 | the words don't ask to serve a document; nothing was run |
-/// | 3 | the source failed, and nothing was run or said; or the inlet failed, and what came before that was answered |
+/// | 3 | the source failed, and nothing was run or said; or the inlet failed, and no answer was put out in part |
 /// | 4 | the sink failed |
 /// | 5 | all that came in was answered, the last run ended by the end of its text, and an edit went past the end of its file |
 /// | 6 | there was no memory left for what comes in, or to answer it |
