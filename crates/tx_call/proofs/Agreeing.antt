@@ -1,21 +1,20 @@
 -- A command leads where a script's leads, and where no earlier run is kept it says and takes what a script's does.
-use Rattle.std.proofs.Common.{◌≡◌, ℕ, ◌+◌, Bool, true, false, cond, List, [], ◌∷◌, Option, Some, None, refl, sym, ap, ap₂, subst, ◌∙◌}
-use Rattle.tx_io.specs.Output.{Piece, Say}
+use Rattle.std.proofs.Common.{◌≡◌, ℕ, ◌+◌, Bool, true, false, cond, List, [], ◌∷◌, Option, Some, None, refl, sym, ap, subst}
+use Rattle.tx_io.specs.Output.{Say}
 use Rattle.tx_files.specs.Changes.{all_fit, first_outside}
 use Rattle.tx_files.specs.declared.edit.Change.{Change}
 use Rattle.tx_machine.specs.Machine.{Formatter}
 use Rattle.tx_script.specs.declared.command.Command.{Command}
 use Rattle.tx_script.specs.declared.command.Command.TheVariants.{Change as Lone, Batch, Save as SaveAs, Locate}
 use Rattle.tx_session.specs.Held.{Held, fresh, changed_session}
-use Rattle.tx_session.specs.Report.{report, turns_of_changes}
-use Rattle.tx_session.specs.Standing.{Standing, now, settled, report_since, turns_since}
+use Rattle.tx_session.specs.Standing.{now, settled}
 use Rattle.tx_session.proofs.Standings.{now-next_standing}
 use Rattle.tx_session.proofs.Settled.{settled-report, settled-turns}
 use Rattle.tx_call.specs.Answers.{AgreesWithScript, most_changes}
 use Rattle.tx_call.specs.Lines.{edit_line}
 use Rattle.tx_call.specs.Replay as script
 use Rattle.tx_call.specs.Replay.{Moment, next_made, next_moment, pieces_at, turns_at}
-use Rattle.tx_call.specs.Sitting.{Sitting, Effect, moment_of, next_edit, line_by, line_told, edit_effect, effect}
+use Rattle.tx_call.specs.Sitting.{Sitting, moment_of, next_edit, line_by, edit_effect, effect}
 
 -- the document of a script at a moment, of which each run is the last one
 abbrev pub sitting_at : Moment → Sitting

@@ -1,33 +1,33 @@
 -- What came of a command, and then of its answer, comes of the request.
-use Rattle.std.proofs.Common.{◌≡◌, ◌≢◌, ℕ, ◌+◌, ◌≤◌, ◌⊎◌, inl, inr, true, false, List, [], ◌∷◌, ◌++◌, Option, Some, None, Result, Ok, Err, refl, sym, ap, subst, ◌∙◌, arith}
+use Rattle.std.proofs.Common.{◌≡◌, ℕ, ◌+◌, ◌≤◌, ◌⊎◌, inl, inr, true, false, List, [], ◌∷◌, Option, Some, None, Result, Ok, Err, refl, sym, ap, subst, ◌∙◌, arith}
 use Rattle.std.specs.Prelude.{IsErr, unwrap_or}
 use Rattle.tx_io.specs.Output.{Output, Piece, Say, told}
 use Rattle.tx_io.specs.Cut.{IsCutShort}
 use Rattle.tx_io.proofs.Told.{told-append}
-use Rattle.tx_io.proofs.CutShort.{cut-nothing, cut-behind, cut-longer}
+use Rattle.tx_io.proofs.CutShort.{cut-behind, cut-longer}
 use Rattle.tx_files.specs.declared.edit.Edit.{Edit as FileEdit}
 use Rattle.tx_machine.specs.Machine.{Formatter}
 use Rattle.tx_machine.specs.Steps.{raised}
+use Rattle.tx_machine.proofs.Going.{raised-zero}
 use Rattle.tx_script.specs.declared.command.Command.{Command as ScriptCommand}
 use Rattle.tx_script.specs.declared.command.Command.TheVariants.{Change as Lone, Batch, Save as SaveAs, Locate}
 use Rattle.tx_request.specs.declared.request.FileContents.{FileContents}
 use Rattle.tx_request.specs.declared.request.Request.{Request}
 use Rattle.tx_request.specs.declared.request.Request.TheVariants.{Command, File, Page, Log, LogOf}
 use Rattle.tx_differing.specs.Differing.{edit_to}
+use Rattle.tx_session.specs.Held.{fresh, transcript}
+use Rattle.tx_session.specs.Pages.{page_of, piece_of}
 use Rattle.tx_session.specs.Standing.{now}
 use Rattle.tx_call.specs.declared.trouble.Trouble.{Trouble}
-use Rattle.tx_call.specs.Answers.{Event, Answered, Wanting, answer_to, changes_of, edit_wanting, most_changes, nothing, saved_answer, wanting}
+use Rattle.tx_call.specs.Answers.{Answered, Wanting, answer_to, came, changes_of, edit_wanting, most_changes, nothing, saved_answer, wanting}
 use Rattle.tx_call.specs.Hearing.{Answers}
-use Rattle.tx_call.specs.Lines.{memory_line, page_memory_line}
+use Rattle.tx_call.specs.Lines.{bytes_text, log_head, memory_line, page_head, page_memory_line}
 use Rattle.tx_call.specs.Replay.{IsEdit}
 use Rattle.tx_call.specs.Sitting.{Sitting, Effect, Comes, ComesInPart, ComesToNothing, edit_effect, effect, says}
 use Rattle.tx_call.specs.Trouble.{PutsOut}
 
 is-most : (steps steps' turns : ℕ) → steps' ≡ raised steps turns → steps' ≤ raised steps turns
 is-most steps steps' turns is = omega (arith, is)
-
-still : (steps : ℕ) → steps ≡ raised steps 0
-still steps = omega arith
 
 no-fewer : (steps turns : ℕ) → steps ≤ raised steps turns
 no-fewer steps turns = omega arith
@@ -103,15 +103,14 @@ module _ {S : Type 0} (m : Formatter S) {T : Type 0} where
       → wanting t r ≡ Some (edit_wanting t) → t' ≡ record t { edits = t.edits + 1 } → PutsOut result before (Say (memory_line (t.edits + 1)) ∷ []) after → steps' ≤ raised steps (answer_to m t r).turns
       → Answers m r result t t' before after steps steps'
   wanting-told (Ok value) r {t = t} {before = before} is counted puts most =
-      let comes : (record (unwrap_or (wanting t r) (nothing t)) { turns = (answer_to m t r).turns }) ≡ (record (edit_wanting t) { turns = (answer_to m t r).turns }) =
-      ap (λ (e : Option Effect). record (unwrap_or e (nothing t)) { turns = (answer_to m t r).turns }) is in
+      let told_is : came m t (Wanting r) ≡ record (edit_wanting t) { turns = (answer_to m t r).turns } = λ i. record (unwrap_or (is i) (nothing t)) { turns = (answer_to m t r).turns } in
       record {
         event = Wanting r;
         asked = refl;
         may_come = λ none. absurd (let no : Some (edit_wanting t) ≡ None = sym is ∙ none in cc);
         comes = record {
-          sitting_is = counted ∙ ap (λ (e : Effect). e.behind) (sym comes);
-          output_is = puts ∙ ap (λ (e : Effect). told before e.pieces) (sym comes);
+          sitting_is = counted ∙ ap (λ (e : Effect). e.behind) (sym told_is);
+          output_is = puts ∙ ap (λ (e : Effect). told before e.pieces) (sym told_is);
           most = most;
           steps_are = λ never. absurd never;
         };
@@ -129,11 +128,11 @@ module _ {S : Type 0} (m : Formatter S) {T : Type 0} where
       → e.turns ≡ (answer_to m t r).turns → wanting t r ≡ Some (edit_wanting t) → ComesToNothing e t here before between steps steps'
       → t' ≡ record here { edits = here.edits + 1 } → PutsOut result between (Say (memory_line (here.edits + 1)) ∷ []) after
       → Answers m r result t t' before after steps steps'
-  told-behind result r {t = t} {here = here} {t' = t'} {before = before} {after = after} {steps = steps} {steps' = steps'} e turns is nothing_came counted puts =
+  told-behind result r {t = t} {t' = t'} {between = between} {after = after} {steps = steps} {steps' = steps'} e turns is nothing_came counted puts =
       wanting-told result r is
       (subst (λ (s : Sitting). t' ≡ record s { edits = s.edits + 1 }) nothing_came.sitting_is counted)
       (subst (λ (o : Option Output). PutsOut result o (Say (memory_line (t.edits + 1)) ∷ []) after) nothing_came.output_is
-      (subst (λ (s : Sitting). PutsOut result _ (Say (memory_line (s.edits + 1)) ∷ []) after) nothing_came.sitting_is puts))
+      (subst (λ (s : Sitting). PutsOut result between (Say (memory_line (s.edits + 1)) ∷ []) after) nothing_came.sitting_is puts))
       (subst (λ (n : ℕ). steps' ≤ raised steps n) turns nothing_came.most)
 
   pub command-wanting : (result : Result T Trouble) (c : ScriptCommand) {t here t' : Sitting} {before between after : Option Output} {steps steps' : ℕ}
@@ -155,7 +154,7 @@ module _ {S : Type 0} (m : Formatter S) {T : Type 0} where
   edit-wanting result f steps counted puts = wanting-told result (File f) refl counted puts (no-fewer steps _)
 
   -- a text was said, which is the answer
-  pub said : (result : Result T Trouble) (r : Request) (t : Sitting) (text : List ℕ) {before after : Option Output} (steps : ℕ)
+  said : (result : Result T Trouble) (r : Request) (t : Sitting) (text : List ℕ) {before after : Option Output} (steps : ℕ)
       → answer_to m t r ≡ says t text → PutsOut result before (Say text ∷ []) after → Answers m r result t t before after steps steps
   said (Ok value) r t text {before = before} steps is puts = record {
     event = Answered r;
@@ -164,31 +163,50 @@ module _ {S : Type 0} (m : Formatter S) {T : Type 0} where
     comes = record {
       sitting_is = ap (λ (e : Effect). e.behind) (sym is);
       output_is = puts ∙ ap (λ (e : Effect). told before e.pieces) (sym is);
-      most = no-fewer steps _;
-      steps_are = λ _. still steps ∙ ap (λ (e : Effect). raised steps e.turns) (sym is);
+      most = no-fewer steps (answer_to m t r).turns;
+      steps_are = λ _. sym (raised-zero steps) ∙ ap (λ (e : Effect). raised steps e.turns) (sym is);
     };
   }
   said (Err trouble) r t text {before = before} {after = after} steps is puts = record {
     event = Answered r;
     asked = refl;
     may_come = tt;
-    comes = record { cut = subst (λ (e : Effect). IsCutShort before e.pieces after) (sym is) puts; most = no-fewer steps _ };
+    comes = record { cut = subst (λ (e : Effect). IsCutShort before e.pieces after) (sym is) puts; most = no-fewer steps (answer_to m t r).turns };
   }
 
   -- or that memory was wanting for a page
-  pub page-said : (result : Result T Trouble) (k : ℕ) (t : Sitting) (text : List ℕ) {before after : Option Output} (steps : ℕ)
-      → answer_to m t (Page k) ≡ says t text → PutsOut result before (Say text ∷ []) after ⊎ PutsOut result before (Say (page_memory_line k) ∷ []) after
+  page-wanting : (result : Result T Trouble) (k : ℕ) (t : Sitting) {before after : Option Output} (steps : ℕ) → PutsOut result before (Say (page_memory_line k) ∷ []) after → Answers m (Page k) result t t before after steps steps
+  page-wanting (Ok value) k t steps puts = record {
+    event = Wanting (Page k);
+    asked = refl;
+    may_come = λ none. absurd (let no : Some (says t (page_memory_line k)) ≡ None = none in cc);
+    comes = record { sitting_is = refl; output_is = puts; most = no-fewer steps 0; steps_are = λ never. absurd never };
+  }
+  page-wanting (Err trouble) k t steps puts = record {
+    event = Wanting (Page k);
+    asked = refl;
+    may_come = λ none. absurd (let no : Some (says t (page_memory_line k)) ≡ None = none in cc);
+    comes = record { cut = puts; most = no-fewer steps 0 };
+  }
+
+  pub page-said : (result : Result T Trouble) (k : ℕ) (t : Sitting) (before after : Option Output) (steps : ℕ)
+      → PutsOut result before (Say (bytes_text (page_head k) (page_of (fresh m (now t.standing)).ran.pages k)) ∷ []) after ⊎ PutsOut result before (Say (page_memory_line k) ∷ []) after
       → Answers m (Page k) result t t before after steps steps
-  page-said result k t text steps is (inl puts) = said result (Page k) t text steps is puts
-  page-said (Ok value) k t text steps is (inr puts) = record {
-    event = Wanting (Page k);
-    asked = refl;
-    may_come = λ none. absurd (let no : Some (says t (page_memory_line k)) ≡ None = none in cc);
-    comes = record { sitting_is = refl; output_is = puts; most = no-fewer steps _; steps_are = λ never. absurd never };
-  }
-  page-said (Err trouble) k t text steps is (inr puts) = record {
-    event = Wanting (Page k);
-    asked = refl;
-    may_come = λ none. absurd (let no : Some (says t (page_memory_line k)) ≡ None = none in cc);
-    comes = record { cut = puts; most = no-fewer steps _ };
-  }
+  page-said result k t before after steps (inl puts) = said result (Page k) t (bytes_text (page_head k) (page_of (fresh m (now t.standing)).ran.pages k)) steps refl puts
+  page-said result k t before after steps (inr puts) = page-wanting result k t steps puts
+
+  -- the transcript, or a piece of it
+  pub transcript-said : (result : Result T Trouble) (t : Sitting) (before after : Option Output) (steps : ℕ) (bytes : List ℕ) → bytes ≡ transcript (fresh m (now t.standing)).ran
+      → PutsOut result before (Say (bytes_text log_head (Some bytes)) ∷ []) after → Answers m Log result t t before after steps steps
+  transcript-said result t before after steps bytes is puts =
+      said result Log t (bytes_text log_head (Some (transcript (fresh m (now t.standing)).ran))) steps refl
+      (subst (λ (all : List ℕ). PutsOut result before (Say (bytes_text log_head (Some all)) ∷ []) after) is puts)
+
+  pub piece-said : (result : Result T Trouble) (k : ℕ) (t : Sitting) (before after : Option Output) (steps : ℕ)
+      → PutsOut result before (Say (bytes_text log_head (piece_of (fresh m (now t.standing)).ran.pieces k)) ∷ []) after → Answers m (LogOf k) result t t before after steps steps
+  piece-said result k t before after steps puts = said result (LogOf k) t (bytes_text log_head (piece_of (fresh m (now t.standing)).ran.pieces k)) steps refl puts
+
+  -- the request is this one
+  pub as-asked : {r r' : Request} {result : Result T Trouble} {t t' : Sitting} {before after : Option Output} {steps steps' : ℕ} → r ≡ r'
+      → Answers m r' result t t' before after steps steps' → Answers m r result t t' before after steps steps'
+  as-asked {result = result} {t = t} {t' = t'} {before = before} {after = after} {steps = steps} {steps' = steps'} is answers = subst (λ (x : Request). Answers m x result t t' before after steps steps') (sym is) answers

@@ -1,6 +1,5 @@
 -- The turns of requests are bounded by the limits of the document, whatever its files say.
-use Rattle.std.proofs.Common.{◌≡◌, ℕ, suc, ◌+◌, ◌*◌, ◌≤◌, Bool, true, false, cond, List, [], ◌∷◌, ◌++◌, length, refl, sym, ap, subst, ◌∙◌, arith}
-use Rattle.std.proofs.Math.Nat.{suc-mul}
+use Rattle.std.proofs.Common.{◌≡◌, ℕ, suc, ◌+◌, ◌*◌, ◌≤◌, Bool, true, false, cond, List, [], ◌∷◌, ◌++◌, length, refl, subst, arith, suc-mul}
 use Rattle.tx_files.specs.Changes.{all_fit}
 use Rattle.tx_files.specs.declared.edit.Change.{Change}
 use Rattle.tx_machine.specs.declared.types.Limits.{Limits}
@@ -15,10 +14,10 @@ use Rattle.tx_call.specs.Sitting.{Sitting, effect}
 use Rattle.tx_call.proofs.TurnBounds.{most_of, work-most}
 
 -- what a run of this document may take
-abbrev most_at : Sitting → ℕ
+abbrev pub most_at : Sitting → ℕ
 most_at t = most_of t.standing.base
 
-abbrev most_by : Limits → ℕ
+abbrev pub most_by : Limits → ℕ
 most_by limits = (limits.pages + 1) * limits.budget
 
 sum-most : (a b n most : ℕ) → a ≤ most → b ≤ n * most → a + b ≤ suc n * most

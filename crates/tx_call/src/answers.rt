@@ -1,5 +1,5 @@
 //! The answers of a document that is served, each to one request.
-ghost use Rattle.std.specs.Prelude.{◌≡◌, ◌∷◌, [], false, ◌+◌, ◌<◌, ◌≤◌, ◌⊎◌, ◌^◌, option_map, IfOk, OnOk};
+ghost use Rattle.std.specs.Prelude.{◌≡◌, ◌∷◌, [], false, ◌+◌, ◌<◌, ◌≤◌, ◌⊎◌, ◌^◌, option_copied, OnOk};
 ghost use Rattle.tx_io.specs.Output.{Say};
 ghost use Rattle.tx_session.specs.Held.{fresh};
 ghost use Rattle.tx_session.specs.Pages.{page_of, piece_of};
@@ -130,7 +130,7 @@ fn say_bytes<K: Sink>(
     bytes: Option<&[u8]>,
     sink: &mut K,
 ) -> Result<(), Trouble>
-    ensures puts { PutsOut result (K.output sink.old) (Say (text_of_bytes head.now (option_map (λ b. b.now) bytes.entry)) ∷ []) (K.output sink.new) }
+    ensures puts { PutsOut result (K.output sink.old) (Say (text_of_bytes head.now (option_copied bytes.entry)) ∷ []) (K.output sink.new) }
     ensures causes { SinkCauses result (K.faults sink.old) (K.faults sink.new) }
 {
     let text = bytes_text(alloc, head, bytes)?;

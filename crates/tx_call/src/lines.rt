@@ -1,5 +1,5 @@
 //! The lines that are said: of runs, of edits, and of what is made or refused.
-ghost use Rattle.std.specs.Prelude.{◌≡◌, ◌++◌, codes, option_map, IfOk};
+ghost use Rattle.std.specs.Prelude.{◌≡◌, ◌++◌, codes, option_copied, IfOk};
 ghost use Rattle.std.specs.Fmt.{decimal};
 ghost use Rattle.tx_call.specs.Lines.{place_text, end_text, run_line, edit_line, outside_line, batch_outside_line, memory_line, located_text, locate_line, script_refusal_line, gen_line, help_text, run_help_text, gen_help_text, list_help_text, serve_help_text, saved_line, request_refusal_line, page_head, page_memory_line, bytes_text, version_line};
 
@@ -261,7 +261,7 @@ pub fn bytes_text<'a>(
     head: &'a [u8],
     bytes: Option<&'a [u8]>,
 ) -> Result<Bytes, AllocError>
-    ensures { IfOk result (λ text. text ≡ bytes_text head.now (option_map (λ b. b.now) bytes.entry)) }
+    ensures { IfOk result (λ text. text ≡ bytes_text head.now (option_copied bytes.entry)) }
 {
     match bytes {
         None => joined(alloc, &[Part::Text(head), Part::Text(b"none\n")]),

@@ -1,5 +1,5 @@
 //! What is put out of a document: its DVI file and its transcript.
-ghost use Rattle.std.specs.Prelude.{◌≡◌, ◌∷◌, ◌++◌, [], length};
+ghost use Rattle.std.specs.Prelude.{◌∷◌, ◌++◌, [], length};
 ghost use Rattle.tx_io.specs.Output.{Say, Save};
 ghost use Rattle.tx_checkpoint.specs.Locate.{located};
 ghost use Rattle.tx_session.specs.Held.{fresh, rows_of};

@@ -1,5 +1,5 @@
 //! The commands of a script, one by one, each as `step` carries it out.
-ghost use Rattle.std.specs.Prelude.{◌≡◌, ◌∷◌, [], ◌+◌, ◌<◌, ◌≤◌, ◌^◌, IfOk, OnOk, IsErrOf};
+ghost use Rattle.std.specs.Prelude.{◌≡◌, ◌+◌, ◌<◌, ◌≤◌, ◌^◌, IfOk, OnOk, IsErrOf};
 ghost use Rattle.tx_machine.specs.Steps.{raised};
 ghost use Rattle.tx_call.specs.Replay.{Puts, Replays, IsEdit, opened, next_moment, moment_after, pieces_at, pieces_from, turns_at, turns_from, refused_pieces, refusal_at};
 ghost use Rattle.tx_call.specs.Tally.{moment};

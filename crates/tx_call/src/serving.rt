@@ -1,5 +1,5 @@
 //! What comes in is answered, one request after the other.
-ghost use Rattle.std.specs.Prelude.{◌≡◌, ◌∷◌, [], ◌+◌, ◌<◌, ◌≤◌, ◌^◌, OnOk};
+ghost use Rattle.std.specs.Prelude.{◌∷◌, [], ◌+◌, ◌<◌, ◌≤◌, ◌^◌, OnOk};
 ghost use Rattle.tx_io.specs.Output.{Say};
 ghost use Rattle.tx_call.specs.Hearing.{BreakCauses, Hears, Serves};
 ghost use Rattle.tx_call.specs.Lines.{request_refusal_line as refusal_text};
@@ -44,13 +44,18 @@ fn answer_next<M: Machine, I: Inlet, K: Sink>(
     ensures causes { BreakCauses result (I.faults inlet.old) (I.faults inlet.new) (K.faults sink.old) (K.faults sink.new) }
 {
     match next_request(alloc, inlet) {
-        Next::Asks(request) => answer(alloc, &request, live, tally, sink, steps)?,
-        Next::Refused(rule) => refuse(alloc, rule, sink)?,
-        Next::Over => return Ok(false),
-        Next::Failed => return Err(Break::Inlet),
-        Next::OutOfMemory => return Err(Break::Trouble(Trouble::Memory)),
+        Next::Asks(request) => {
+            answer(alloc, &request, live, tally, sink, steps)?;
+            Ok(true)
+        }
+        Next::Refused(rule) => {
+            refuse(alloc, rule, sink)?;
+            Ok(true)
+        }
+        Next::Over => Ok(false),
+        Next::Failed => Err(Break::Inlet),
+        Next::OutOfMemory => Err(Break::Trouble(Trouble::Memory)),
     }
-    Ok(true)
 }
 
 /// Answers what comes in, one request after the other, to its end; each answer is put out before the next request is read. Answers how
@@ -71,7 +76,8 @@ pub fn answer_all<M: Machine, I: Inlet, K: Sink>(
         outside: false,
     };
     for _at in 0..u64::MAX {
-        if !answer_next(alloc, live, &mut tally, inlet, sink, steps)? {
+        let more = answer_next(alloc, live, &mut tally, inlet, sink, steps)?;
+        if !more {
             return Ok(tally);
         }
     }
