@@ -1,5 +1,5 @@
 -- What came of a command, and then of its answer, comes of the request.
-use Rattle.std.proofs.Common.{◌≡◌, ℕ, ◌+◌, ◌≤◌, ◌⊎◌, inl, inr, true, false, List, [], ◌∷◌, Option, Some, None, Result, Ok, Err, refl, sym, ap, subst, ◌∙◌, arith}
+use Rattle.std.proofs.Common.{◌≡◌, ℕ, ◌+◌, ◌≤◌, ◌⊎◌, inl, inr, true, false, List, [], ◌∷◌, Option, Some, None, Result, Ok, Err, refl, sym, ap, subst, ◌∙◌, arith, ◌≢◌, cond, ◌++◌}
 use Rattle.std.specs.Prelude.{IsErr, unwrap_or}
 use Rattle.tx_io.specs.Output.{Output, Piece, Say, told}
 use Rattle.tx_io.specs.Cut.{IsCutShort}
@@ -22,7 +22,7 @@ use Rattle.tx_call.specs.declared.trouble.Trouble.{Trouble}
 use Rattle.tx_call.specs.Answers.{Answered, Wanting, answer_to, came, changes_of, edit_wanting, most_changes, nothing, saved_answer, wanting}
 use Rattle.tx_call.specs.Hearing.{Answers}
 use Rattle.tx_call.specs.Lines.{bytes_text, log_head, memory_line, page_head, page_memory_line}
-use Rattle.tx_call.specs.Replay.{IsEdit}
+use Rattle.tx_call.specs.Replay.{MayWant}
 use Rattle.tx_call.specs.Sitting.{Sitting, Effect, Comes, ComesInPart, ComesToNothing, edit_effect, effect, says}
 use Rattle.tx_call.specs.Trouble.{PutsOut}
 
@@ -32,9 +32,9 @@ is-most steps steps' turns is = omega (arith, is)
 no-fewer : (steps turns : ℕ) → steps ≤ raised steps turns
 no-fewer steps turns = omega arith
 
-edit-wants : (t : Sitting) (c : ScriptCommand) → IsEdit c → wanting t (Command c) ≡ Some (edit_wanting t)
-edit-wants t (Lone c) is = refl
-edit-wants t (Batch changes) is = refl
+edit-wants : (t : Sitting) (c : ScriptCommand) → MayWant (now t.standing).files c → wanting t (Command c) ≡ Some (edit_wanting t)
+edit-wants t (Lone c) is = ap (λ b. cond b (Some (edit_wanting t)) None) is
+edit-wants t (Batch changes) is = ap (λ b. cond b (Some (edit_wanting t)) None) is
 edit-wants t (SaveAs name) is = absurd is
 edit-wants t (Locate at) is = absurd is
 
@@ -136,7 +136,7 @@ module _ {S : Type 0} (m : Formatter S) {T : Type 0} where
       (subst (λ (n : ℕ). steps' ≤ raised steps n) turns nothing_came.most)
 
   pub command-wanting : (result : Result T Trouble) (c : ScriptCommand) {t here t' : Sitting} {before between after : Option Output} {steps steps' : ℕ}
-      → IsEdit c → ComesToNothing (effect m most_changes t c) t here before between steps steps'
+      → MayWant (now t.standing).files c → ComesToNothing (effect m most_changes t c) t here before between steps steps'
       → t' ≡ record here { edits = here.edits + 1 } → PutsOut result between (Say (memory_line (here.edits + 1)) ∷ []) after
       → Answers m (Command c) result t t' before after steps steps'
   command-wanting result c {t = t} is_edit nothing_came counted puts = told-behind result (Command c) (effect m most_changes t c) refl (edit-wants t c is_edit) nothing_came counted puts

@@ -1,9 +1,10 @@
 -- The commands that were carried out so far, and those that are left, are all of them.
-use Rattle.std.proofs.Common.{◌≡◌, ℕ, ◌+◌, ◌<◌, ◌≤◌, List, [], ◌∷◌, ◌++◌, length, take, drop, get_or, Option, Some, Result, Ok, Err, refl, sym, ap, ◌∙◌, subst, arith, append_assoc}
+use Rattle.std.proofs.Common.{◌≡◌, ℕ, ◌+◌, ◌<◌, ◌≤◌, cond, List, [], ◌∷◌, ◌++◌, length, take, drop, get_or, Option, Some, None, Result, Ok, Err, refl, sym, ap, ◌∙◌, subst, arith, append_assoc}
 use Rattle.std.specs.Prelude.{slice_get, IsErrAnd}
 use Rattle.std.proofs.lemmas.List.{take_more, drop_more, take-append-drop}
 use Rattle.std.proofs.lemmas.List.Sums.{fold-append}
 use Rattle.std.proofs.lemmas.Option.{slice_get-get_or}
+use Rattle.tx_bytes.specs.Files.{Files}
 use Rattle.tx_io.specs.Output.{Output, Piece, told}
 use Rattle.tx_io.specs.Cut.{IsCutShort}
 use Rattle.tx_io.proofs.Told.{told-append}
@@ -15,7 +16,7 @@ use Rattle.tx_script.specs.declared.command.Command.{Command}
 use Rattle.tx_script.specs.declared.command.Command.TheVariants.{Change as Lone, Batch, Save as SaveAs, Locate}
 use Rattle.tx_call.specs.declared.trouble.Interruption.{Interruption}
 use Rattle.tx_call.specs.declared.trouble.Interruption.TheVariants.{Trouble as Interrupted, RefusedEdit}
-use Rattle.tx_call.specs.Replay.{Moment, IsEdit, next_moment, moment_after, pieces_at, pieces_from, turns_at, turns_from, refused_pieces, Refusal, refusal_at, refusal_of, Puts, Replays}
+use Rattle.tx_call.specs.Replay.{Moment, MayWant, next_moment, moment_after, pieces_at, pieces_from, turns_at, turns_from, refused_pieces, Refusal, refusal_at, refusal_of, Puts, Replays}
 
 pub record Replayed {S : Type 0} (m : Formatter S) (begun here : Moment) (commands : List Command) (k : ℕ) (before sink : Option Output) (steps now : ℕ) : Type 0 where
   pub moment : here ≡ moment_after begun (take k commands)
@@ -24,12 +25,12 @@ pub record Replayed {S : Type 0} (m : Formatter S) (begun here : Moment) (comman
   pub edits : here.edits ≤ begun.edits + k
   pub places : here.places ≤ begun.places + k
 
--- where memory refuses a command that makes changes, these pieces are put out
-refusal-is : (c : Command) (pieces : Refusal) → IsEdit c → refusal_of (Some c) pieces ≡ Some pieces
-refusal-is (Lone change) pieces is = refl
-refusal-is (Batch changes) pieces is = refl
-refusal-is (SaveAs name) pieces is = absurd is
-refusal-is (Locate at) pieces is = absurd is
+-- where memory refuses a command that it may, these pieces are put out
+refusal-is : (files : Files) (c : Command) (pieces : Refusal) → MayWant files c → refusal_of files (Some c) pieces ≡ Some pieces
+refusal-is files (Lone change) pieces wants = ap (λ b. cond b (Some pieces) None) wants
+refusal-is files (Batch changes) pieces wants = ap (λ b. cond b (Some pieces) None) wants
+refusal-is files (SaveAs name) pieces wants = absurd wants
+refusal-is files (Locate at) pieces wants = absurd wants
 
 module _ {S : Type 0} (m : Formatter S) where
   pieces-append : (t : Moment) (first later : List Command) → pieces_from m t (first ++ later) ≡ pieces_from m t first ++ pieces_from m (moment_after t first) later
@@ -76,9 +77,9 @@ module _ {S : Type 0} (m : Formatter S) where
 
   pub replayed-cut : (T U : Type 0) (out : List ℕ) {begun here : Moment} {commands : List Command} {k : ℕ} {before sink : Option Output} {steps now : ℕ} (after : Option Output) (c : Command) (e : Interruption)
       → Replayed m begun here commands k before sink steps now → k < length commands → c ≡ get_or commands k c
-      → Puts {T = T} (pieces_at m here c) (refused_pieces m out here) (Err e) sink after → (e ≡ RefusedEdit → IsEdit c)
+      → Puts {T = T} (pieces_at m here c) (refused_pieces m out here) (Err e) sink after → (e ≡ RefusedEdit → MayWant here.held.files c)
       → Replays {T = U} (pieces_from m begun commands) (refusal_at m out begun commands) (Err e) before after
-  replayed-cut T U out {begun = begun} {here = here} {commands = commands} {k = k} {before = before} {sink = sink} after c (Interrupted trouble) so_far more is puts edit =
+  replayed-cut T U out {begun = begun} {here = here} {commands = commands} {k = k} {before = before} {sink = sink} after c (Interrupted trouble) so_far more is puts wants =
       let left : drop k commands ≡ c ∷ drop (k + 1) commands = drop_more commands k c more ∙ ap (λ x. x ∷ drop (k + 1) commands) (sym is) in
       let later : List Piece = pieces_from m (next_moment here c) (drop (k + 1) commands) in
       let first : List Piece = pieces_from m begun (take k commands) in
@@ -87,12 +88,13 @@ module _ {S : Type 0} (m : Formatter S) where
       subst (λ (ps : List Piece). IsCutShort before ps after) whole
       (cut-behind before first (pieces_at m here c ++ later) after
       (cut-longer (told before first) (pieces_at m here c) later after (subst (λ (o : Option Output). IsCutShort o (pieces_at m here c) after) so_far.puts puts)))
-  replayed-cut T U out {begun = begun} {here = here} {commands = commands} {k = k} {before = before} after c RefusedEdit so_far more is puts edit =
+  replayed-cut T U out {begun = begun} {here = here} {commands = commands} {k = k} {before = before} after c RefusedEdit so_far more is puts wants =
+      let files : Files = (moment_after begun (take k commands)).held.files in
       let pieces : Refusal = record { before_it = pieces_from m begun (take k commands); of_it = refused_pieces m out (moment_after begun (take k commands)) } in
       record {
         made = k;
         pieces = pieces;
-        are = ap (λ at. refusal_of at pieces) (slice_get-there commands k c more is) ∙ refusal-is c pieces (edit refl);
+        are = ap (λ at. refusal_of files at pieces) (slice_get-there commands k c more is) ∙ refusal-is files c pieces (subst (λ (t : Moment). MayWant t.held.files c) so_far.moment (wants refl));
         cut = subst (λ (t : Moment). IsCutShort (told before (pieces_from m begun (take k commands))) (refused_pieces m out t) after) so_far.moment
             (subst (λ (o : Option Output). IsCutShort o (refused_pieces m out here) after) so_far.puts puts);
       }

@@ -1,5 +1,5 @@
 -- What a document that is served answers to what comes in.
-use Rattle.std.specs.Prelude.{◌≡◌, ◌≢◌, ℕ, false, ◌+◌, List, [], ◌∷◌, ◌++◌, Option, Some, None, unwrap_or}
+use Rattle.std.specs.Prelude.{◌≡◌, ◌≢◌, ℕ, false, ◌+◌, List, [], ◌∷◌, ◌++◌, Option, Some, None, unwrap_or, if◌then◌else◌}
 use Rattle.tx_io.specs.Output.{Piece, Say}
 use Rattle.tx_differing.specs.Differing.{edit_to}
 use Rattle.tx_files.specs.declared.edit.Edit.{Edit as FileEdit}
@@ -16,6 +16,7 @@ use Rattle.tx_request.specs.declared.request.Next.{Next}
 use Rattle.tx_request.specs.declared.request.Next.TheVariants.{Asks, Refused}
 use Rattle.tx_session.specs.Held.{Held, fresh, transcript}
 use Rattle.tx_session.specs.Pages.{page_of, piece_of}
+use Rattle.tx_session.specs.Refusals.{may_want}
 use Rattle.tx_session.specs.Standing.{Standing, now, settled}
 use Rattle.tx_call.specs.Lines.{bytes_text, log_head, memory_line, page_head, page_memory_line, request_refusal_line, saved_line}
 use Rattle.tx_call.specs.Replay.{next_moment, pieces_at, turns_at}
@@ -59,13 +60,14 @@ answer_to m t (Page k) = says t (bytes_text (page_head k) (page_of (fresh m (now
 answer_to m t Log = says t (bytes_text log_head (Some (transcript (fresh m (now t.standing)).ran)))
 answer_to m t (LogOf k) = says t (bytes_text log_head (piece_of (fresh m (now t.standing)).ran.pieces k))
 
--- what is answered where memory is wanting for it: an edit counts then too, and all else is as before; None where the call ends then
+-- what is answered where memory is wanting for it: an edit counts then too, and all else is as before; None where the call ends then, and
+-- for a change alone that goes past the end of its file, which has its own line
 abbrev pub edit_wanting : Sitting → Effect
 edit_wanting t = says (record t { edits = t.edits + 1 }) (memory_line (t.edits + 1))
 
 abbrev pub wanting : Sitting → Request → Option Effect
-wanting t (Command (Lone c)) = Some (edit_wanting t)
-wanting t (Command (Batch changes)) = Some (edit_wanting t)
+wanting t (Command (Lone c)) = if may_want (now t.standing).files (c ∷ []) then Some (edit_wanting t) else None
+wanting t (Command (Batch changes)) = if may_want (now t.standing).files changes then Some (edit_wanting t) else None
 wanting t (Command (SaveAs name)) = None
 wanting t (Command (Locate at)) = None
 wanting t (File f) = Some (edit_wanting t)

@@ -2,6 +2,7 @@
 use Rattle.std.specs.Prelude.{◌≡◌, ℕ, ◌+◌, Bool, true, false, List, [], ◌∷◌, ◌++◌, length, take, slice_get, fold, Option, Some, None, Result, Ok, Err, if◌then◌else◌}
 use Rattle.tx_io.specs.Output.{Output, Piece, Say, told}
 use Rattle.tx_io.specs.Cut.{IsCutShort}
+use Rattle.tx_bytes.specs.Files.{Files}
 use Rattle.tx_files.specs.Changes.{all_fit, first_outside}
 use Rattle.tx_files.specs.declared.edit.Change.{Change}
 use Rattle.tx_machine.specs.declared.types.End.{End as RunEnd}
@@ -11,6 +12,7 @@ use Rattle.tx_script.specs.declared.command.Command.{Command}
 use Rattle.tx_script.specs.declared.command.Command.TheVariants.{Change as Lone, Batch, Save as SaveAs, Locate}
 use Rattle.tx_checkpoint.specs.Locate.{located}
 use Rattle.tx_session.specs.Held.{Held, fresh, rows_of, changed_session, after_all}
+use Rattle.tx_session.specs.Refusals.{may_want}
 use Rattle.tx_session.specs.Report.{report, turns_of_changes}
 use Rattle.tx_call.specs.declared.trouble.Interruption.{Interruption}
 use Rattle.tx_call.specs.declared.trouble.Interruption.TheVariants.{Trouble as Interrupted, RefusedEdit}
@@ -29,11 +31,13 @@ pub record Moment : Type 0 where
 abbrev pub opened : Held → Moment
 opened held = record { held = held; edits = 0; places = 0; outside = false }
 
-abbrev pub IsEdit : Command → Type 0
-IsEdit (Lone c) = Unit {0}
-IsEdit (Batch changes) = Unit {0}
-IsEdit (SaveAs name) = ⊥
-IsEdit (Locate at) = ⊥
+-- a command that memory may refuse: a change that can be made, or a batch; of a batch that is one change that is so too, while more are
+-- made in a copy, for which memory may be wanting before they are looked at
+abbrev pub MayWant : Files → Command → Type 0
+MayWant files (Lone c) = may_want files (c ∷ []) ≡ true
+MayWant files (Batch changes) = may_want files changes ≡ true
+MayWant files (SaveAs name) = ⊥
+MayWant files (Locate at) = ⊥
 
 -- the moment after a list of changes, which are left out as a whole where they can't be made, and after a command
 abbrev pub next_made : Moment → List Change → Moment
@@ -104,17 +108,18 @@ pub record Refusal : Type 0 where
   pub of_it : List Piece
 
 -- what is put out where memory refuses the edit at a place of the commands: all pieces of the commands before it, and then
--- its line and what there was before it; None where no edit stands there
-abbrev pub refusal_of : Option Command → Refusal → Option Refusal
-refusal_of None refusal = None
-refusal_of (Some (SaveAs name)) refusal = None
-refusal_of (Some (Locate at)) refusal = None
-refusal_of (Some (Lone c)) refusal = Some refusal
-refusal_of (Some (Batch changes)) refusal = Some refusal
+-- its line and what there was before it; None where no edit stands there that memory may refuse, so that a change alone that goes past the
+-- end of its file, as it is by then, has its own line
+abbrev pub refusal_of : Files → Option Command → Refusal → Option Refusal
+refusal_of files None refusal = None
+refusal_of files (Some (SaveAs name)) refusal = None
+refusal_of files (Some (Locate at)) refusal = None
+refusal_of files (Some (Lone c)) refusal = if may_want files (c ∷ []) then Some refusal else None
+refusal_of files (Some (Batch changes)) refusal = if may_want files changes then Some refusal else None
 
 abbrev pub refusal_at : {S : Type 0} → Formatter S → List ℕ → Moment → List Command → ℕ → Option Refusal
 refusal_at m out t commands made =
-    refusal_of (slice_get commands made)
+    refusal_of (moment_after t (take made commands)).held.files (slice_get commands made)
     (record { before_it = pieces_from m t (take made commands); of_it = refused_pieces m out (moment_after t (take made commands)) })
 
 -- the same with a piece that comes before all commands

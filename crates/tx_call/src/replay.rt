@@ -1,7 +1,7 @@
 //! The commands of a script, one by one, each as `step` carries it out.
 ghost use Rattle.std.specs.Prelude.{◌≡◌, ◌+◌, ◌<◌, ◌≤◌, ◌^◌, IfOk, OnOk, IsErrOf};
 ghost use Rattle.tx_machine.specs.Steps.{raised};
-ghost use Rattle.tx_call.specs.Replay.{Puts, Replays, IsEdit, opened, next_moment, moment_after, pieces_at, pieces_from, turns_at, turns_from, refused_pieces, refusal_at};
+ghost use Rattle.tx_call.specs.Replay.{Puts, Replays, MayWant, opened, next_moment, moment_after, pieces_at, pieces_from, turns_at, turns_from, refused_pieces, refusal_at};
 ghost use Rattle.tx_call.specs.Tally.{moment};
 ghost use Rattle.tx_call.specs.Trouble.{PutsOut, SinkCauses, EditCauses};
 
@@ -52,7 +52,7 @@ fn run_command<M: Machine, K: Sink>(
     ensures edits { OnOk result (tally.new.edits ≤ tally.old.edits + 1) }
     ensures places { OnOk result (tally.new.places ≤ tally.old.places + 1) }
     ensures puts { Puts (pieces_at M.formatter (moment session.old tally.old) command.now) (refused_pieces M.formatter out.now (moment session.old tally.old)) result (K.output sink.old) (K.output sink.new) }
-    ensures refused { IsErrOf result Interruption.RefusedEdit → IsEdit command.now }
+    ensures refused { IsErrOf result Interruption.RefusedEdit → MayWant session.old.files command.now }
     ensures counted { OnOk result (steps.new ≡ raised steps.old (turns_at M.formatter (moment session.old tally.old) command.now)) }
     ensures most { steps.new ≤ raised steps.old (turns_at M.formatter (moment session.old tally.old) command.now) }
     ensures causes { EditCauses result (K.faults sink.old) (K.faults sink.new) }

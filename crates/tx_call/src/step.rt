@@ -1,11 +1,12 @@
 //! One command, as a script has it and as a request does: its changes are made and what came of them is said, what there is is saved,
 //! or it is said by which page a place is first read.
-ghost use Rattle.std.specs.Prelude.{◌≡◌, ◌∷◌, [], ◌+◌, ◌<◌, ◌≤◌, ◌^◌, IfOk, OnOk};
+ghost use Rattle.std.specs.Prelude.{◌≡◌, ◌∷◌, [], true, ◌+◌, ◌<◌, ◌≤◌, ◌^◌, IfOk, OnOk};
 ghost use Rattle.tx_io.specs.Output.{Say};
 ghost use Rattle.tx_session.specs.Held.{fresh};
+ghost use Rattle.tx_session.specs.Refusals.{may_want};
 ghost use Rattle.tx_session.specs.Standing.{now};
 ghost use Rattle.tx_call.specs.Lines.{edit_line as made_line};
-ghost use Rattle.tx_call.specs.Replay.{IsEdit, refused_line};
+ghost use Rattle.tx_call.specs.Replay.{MayWant, refused_line};
 ghost use Rattle.tx_call.specs.Sitting.{Goes, edit_effect, effect};
 ghost use Rattle.tx_call.specs.Tally.{sitting};
 ghost use Rattle.tx_call.specs.Trouble.{PutsOut, SinkCauses};
@@ -94,6 +95,7 @@ pub fn make_changes<M: Machine, D: Document<M>, K: Sink>(
     ensures goes { Goes result (edit_effect M.formatter D.longest (sitting (D.standing document.old) tally.old) together changes.now) (sitting (D.standing document.old) tally.old) (sitting (D.standing document.new) tally.new) (K.output sink.old) (K.output sink.new) steps.old steps.new }
     ensures edits { OnOk result (tally.new.edits ≤ tally.old.edits + 1) }
     ensures places { OnOk result (tally.new.places ≡ tally.old.places) }
+    ensures wanting { IfOk result (λ stepped. stepped ≡ Stepped.Wanting → may_want (now (D.standing document.old)).files changes.now ≡ true) }
     ensures causes { SinkCauses result (K.faults sink.old) (K.faults sink.new) }
 {
     match document.batch(changes, steps) {
@@ -127,7 +129,7 @@ pub fn step<M: Machine, D: Document<M>, K: Sink>(
     ensures goes { Goes result (effect M.formatter D.longest (sitting (D.standing document.old) tally.old) command.now) (sitting (D.standing document.old) tally.old) (sitting (D.standing document.new) tally.new) (K.output sink.old) (K.output sink.new) steps.old steps.new }
     ensures edits { OnOk result (tally.new.edits ≤ tally.old.edits + 1) }
     ensures places { OnOk result (tally.new.places ≤ tally.old.places + 1) }
-    ensures wanting { IfOk result (λ stepped. stepped ≡ Stepped.Wanting → IsEdit command.now) }
+    ensures wanting { IfOk result (λ stepped. stepped ≡ Stepped.Wanting → MayWant (now (D.standing document.old)).files command.now) }
     ensures causes { SinkCauses result (K.faults sink.old) (K.faults sink.new) }
 {
     match command {

@@ -1,18 +1,19 @@
 -- What a list of changes that was made is answered, and the turns that it takes.
-use Rattle.std.specs.Prelude.{ℕ, ◌+◌, ◌-◌, drop, take, List, [], ◌∷◌, length, Option, Some, None, if◌then◌else◌}
+use Rattle.std.specs.Prelude.{◌≡◌, ℕ, ◌+◌, ◌-◌, ◌≤◌, true, drop, take, slice_get, List, [], ◌∷◌, length, Option, Some, None, if◌then◌else◌}
 use Rattle.tx_files.specs.Changes.{all_fit}
 use Rattle.tx_files.specs.Edits.{fits_in}
 use Rattle.tx_files.specs.declared.edit.Edit.{Edit as FileEdit}
 use Rattle.tx_files.specs.declared.edit.Change.{Change}
 use Rattle.tx_files.specs.declared.edit.Change.TheVariants.{Edit}
 use Rattle.tx_machine.specs.Machine.{Formatter}
+use Rattle.tx_machine.specs.Steps.{raised}
 use Rattle.tx_session.specs.declared.report.Report.{Report}
 use Rattle.tx_checkpoint.specs.Resume.{resume, stands}
 use Rattle.tx_checkpoint.specs.Rows.{History, rows_in, turns_of}
 use Rattle.tx_quiesce.specs.Limits.{is_page_limit}
 use Rattle.tx_quiesce.specs.Meeting.{Meeting, first_meeting}
 use Rattle.tx_quiesce.specs.Reuse.{reused_rows}
-use Rattle.tx_session.specs.Held.{Held, rows_of, changed_session, after}
+use Rattle.tx_session.specs.Held.{Held, rows_of, changed_session, after, replayed}
 
 -- a document of so many pages: after how many of the first formatting resumed, and how many of the last were reused; all others
 -- were formatted
@@ -68,3 +69,13 @@ turns_of_edit m held e = if fits_in held.files e then work m held (Edit e ∷ []
 abbrev pub turns_of_edits : {S : Type 0} → Formatter S → Held → List FileEdit → ℕ
 turns_of_edits m held [] = 0
 turns_of_edits m held (e ∷ edits) = turns_of_edit m held e + turns_of_edits m (after held e) edits
+
+-- memory was wanting for one of some edits: it fits, those before it were made, but for those that don't fit, and no more turns were
+-- taken than theirs and its own
+pub record IsStopped {S : Type 0} (m : Formatter S) (edits : List FileEdit) (begun here : Held) (steps steps' : ℕ) : Type 0 where
+  pub made : ℕ
+  pub wanting : FileEdit
+  pub is_next : slice_get edits made ≡ Some wanting
+  pub held_is : here ≡ replayed begun (take made edits)
+  pub fits : fits_in here.files wanting ≡ true
+  pub most : steps' ≤ raised steps (turns_of_edits m begun (take (made + 1) edits))

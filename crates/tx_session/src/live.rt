@@ -17,6 +17,7 @@ ghost use Rattle.tx_session.specs.Held.{fresh};
 ghost use Rattle.tx_session.specs.Pages.{nth_of, page_of, piece_of};
 ghost use Rattle.tx_session.specs.Standing.{now, settled};
 
+use crate::changing::change_files;
 use crate::cutting::make;
 use crate::document::Document;
 use crate::kept::{Come, Cut, Earlier, Made};
@@ -343,7 +344,7 @@ impl<M: Machine> Document<M> for Live<M> {
             let pages = self.pages();
             return Ok(report_of(pages, pages, 0));
         }
-        let before = self.files.change_all(changes)?;
+        let before = change_files(&mut self.files, changes)?;
         let Ok(all) = all_changes(self.alloc, &self.earlier, changes) else {
             self.files.take_back(before);
             return Err(Refusal::OutOfMemory);

@@ -1,7 +1,8 @@
 //! The session: a document, what the run on it gave, and edits of it.
-ghost use Rattle.std.specs.Prelude.{◌≡◌, ◌∷◌, [], ℕ, ◌<◌, ◌≤◌, ◌+◌, ◌*◌, length, take, IfOk, OnOk, OnErr};
+ghost use Rattle.std.specs.Prelude.{◌≡◌, ◌∷◌, [], true, ◌≤◌, ◌+◌, ◌*◌, length, IfOk, OnOk, OnErr};
 ghost use Rattle.tx_dvi.specs.Dvi.{dvi};
 ghost use Rattle.tx_files.specs.Changes.{IsOutside as IsPast};
+ghost use Rattle.tx_files.specs.Edits.{fits_in};
 ghost use Rattle.tx_files.specs.declared.edit.Change.TheVariants as change;
 ghost use Rattle.tx_machine.specs.Ranges.{IsDate, AreLimits};
 ghost use Rattle.tx_machine.specs.Steps.{raised};
@@ -11,8 +12,9 @@ ghost use Rattle.tx_session.specs.Locating.{AllLeaveBy};
 ghost use Rattle.tx_session.specs.Refusals.{IsEditAnswer, IsBatchAnswer, IsOutside};
 ghost use Rattle.tx_session.specs.Standing.{settled};
 ghost use Rattle.tx_session.specs.Report as spec;
-ghost use Rattle.tx_session.specs.Report.{report, work, turns_of_changes, turns_of_edit, turns_of_edits};
+ghost use Rattle.tx_session.specs.Report.{report, work, turns_of_changes, turns_of_edit, turns_of_edits, IsStopped};
 
+use crate::changing::change_files;
 use crate::document::Document;
 use crate::kept::Made;
 use crate::made::{make_after, make_anew};
@@ -109,7 +111,9 @@ impl<M: Machine> Session<M> {
     /// Makes a list of changes, all or none: its answer is what came of it, or why it was refused. Where they leave all that the
     /// run read, everything stands, and no turn is taken. Else formatting resumes after the last page up to which they leave all
     /// reads, and goes on until a new page meets an old one, from which on the old ones are reused. What is formatted is made
-    /// beside the old pages, and replaces them in the end. After a refusal everything is as before.
+    /// beside the old pages, and replaces them in the end. After a refusal everything is as before. Where one change alone goes past
+    /// the end of its file, that is answered before memory is asked for; of more changes, which are made in a copy, want of memory may
+    /// be answered though one of them does.
     pub fn batch(&mut self, changes: &[Change], steps: &mut Steps) -> Result<Report, Refusal>
         ensures answer { IsBatchAnswer self.old.files changes.now result }
         ensures held { OnOk result (self.new ≡ changed_session self.old changes.now) }
@@ -122,7 +126,7 @@ impl<M: Machine> Session<M> {
         ensures most { steps.new ≤ raised steps.old (turns_of_changes M.formatter self.old changes.now) }
         ensures bound { steps.new ≤ steps.old + (length (fresh M.formatter (changed_session self.old changes.now)).ran.pages + 1) * self.old.limits.budget }
     {
-        let before = self.files.change_all(changes)?;
+        let before = change_files(&mut self.files, changes)?;
         let kept = self.made.rows.resume_at(changes);
         if self.made.rows.stands(kept, changes) {
             drop(before);
@@ -182,11 +186,13 @@ impl<M: Machine> Session<M> {
         self.batch(slice::from_ref(&change), steps)
     }
 
-    /// Makes an edit, or leaves it out where it doesn't fit.
+    /// Makes an edit, or leaves it out where it doesn't fit. Memory is wanting only for one that fits.
     fn edit_if_it_fits(&mut self, e: &Edit, steps: &mut Steps) -> Result<(), AllocError>
         ensures held { OnOk result (self.new ≡ after self.old e.now) }
         ensures counted { OnOk result (steps.new ≡ raised steps.old (turns_of_edit M.formatter self.old e.now)) }
         ensures err { OnErr result (self.new ≡ self.old) }
+        ensures fits { OnErr result (fits_in self.old.files e.now ≡ true) }
+        ensures most { steps.new ≤ raised steps.old (turns_of_edit M.formatter self.old e.now) }
     {
         match self.edit(e, steps) {
             Ok(_) => Ok(()),
@@ -196,12 +202,12 @@ impl<M: Machine> Session<M> {
         }
     }
 
-    /// Makes edits, one after the other; those that don't fit are left out. Its only error is want of memory, which
-    /// leaves the session as the edits before had made it.
+    /// Makes edits, one after the other; those that don't fit are left out. Its only error is want of memory, for an edit that fits,
+    /// which leaves the session as the edits before had made it, and takes no more turns than those edits and this one.
     pub fn replay(&mut self, edits: &[Edit], steps: &mut Steps) -> Result<(), AllocError>
         ensures all { OnOk result (self.new ≡ replayed self.old edits.now) }
-        ensures first { OnErr result ((made : ℕ) × (made < length edits.now) × (self.new ≡ replayed self.old (take made edits.now))) }
         ensures counted { OnOk result (steps.new ≡ raised steps.old (turns_of_edits M.formatter self.old edits.now)) }
+        ensures stopped { OnErr result (IsStopped M.formatter edits.now self.old self.new steps.old steps.new) }
     {
         for e in edits {
             self.edit_if_it_fits(e, steps)?;

@@ -36,7 +36,8 @@ pub fn vortex<S: Source, K: Sink>(
 ) -> u8
     // After any edits, made or refused, the pages, the transcript and the lines are those of the fresh run on the listed
     // files, so edited; whatever the status, nothing else is put out; and where the sink failed, the status is 4, unless
-    // memory refused an edit and that was to be told and saved.
+    // memory refused an edit and that was to be told and saved. That is never one change alone that goes past the end of its
+    // file: its line says so.
     ensures leaves { ForScript (S.holds source.old) (script_asked (words_meant (texts words.now))) (λ scripted. ForHeld (S.holds source.old) (λ held. Leaves (outcome tex (texts words.now) scripted held) result (K.output sink.old) (K.output sink.new) (K.faults sink.old) (K.faults sink.new) steps.old steps.new)) }
 
     ensures status { result ≤ 6 }
