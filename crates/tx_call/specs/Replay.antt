@@ -31,8 +31,8 @@ pub record Moment : Type 0 where
 abbrev pub opened : Held → Moment
 opened held = record { held = held; edits = 0; places = 0; outside = false }
 
--- a command that memory may refuse: a change that can be made, or a batch; of a batch that is one change that is so too, while more are
--- made in a copy, for which memory may be wanting before they are looked at
+-- a command that memory may refuse: a change that can be made, or a batch, unless that is one change which can't; a batch of more is made
+-- in a copy, for which memory may be wanting before its changes are looked at
 abbrev pub MayWant : Files → Command → Type 0
 MayWant files (Lone c) = may_want files (c ∷ []) ≡ true
 MayWant files (Batch changes) = may_want files changes ≡ true
@@ -108,8 +108,8 @@ pub record Refusal : Type 0 where
   pub of_it : List Piece
 
 -- what is put out where memory refuses the edit at a place of the commands: all pieces of the commands before it, and then
--- its line and what there was before it; None where no edit stands there that memory may refuse, so that a change alone that goes past the
--- end of its file, as it is by then, has its own line
+-- its line and what there was before it; None where no edit stands there that memory may refuse: of a change alone that goes past the end
+-- of its file, as that is by then, its own line says so
 abbrev pub refusal_of : Files → Option Command → Refusal → Option Refusal
 refusal_of files None refusal = None
 refusal_of files (Some (SaveAs name)) refusal = None

@@ -45,3 +45,7 @@ returns-in-Err-OutOfMemory-clause-goes g c = record {
   output_is = refl;
   most = c.batch.ensures.most;
 }
+
+pub returns-in-Err-OutOfMemory-clause-wanting : goal.returns-in-Err-OutOfMemory-clause-wanting
+returns-in-Err-OutOfMemory-clause-wanting g c = λ _.
+    subst (λ (refusal : Refusal). IsBatchAnswer {T = Report} (now (g.D.Document.standing c.args.document.now)).files c.args.changes.now (Err refusal)) c.in-Err-OutOfMemory.field-0-is c.in-Err-OutOfMemory.ensures.answer

@@ -1,5 +1,12 @@
-use Rattle.std.proofs.Common.{true, false, ap, subst, sym, ◌∙◌}
-use Rattle.tx_call.specs.Replay.{IsEdit}
+use Rattle.std.proofs.Common.{◌≡◌, true, false, List, ap, subst, sym, ◌∙◌}
+use Rattle.std.specs.Prelude.{IfOk}
+use Rattle.tx_files.specs.declared.edit.Change.{Change}
+use Rattle.tx_script.specs.declared.command.Command.{Command}
+use Rattle.tx_session.specs.Refusals.{may_want}
+use Rattle.tx_session.specs.Standing.{now}
+use Rattle.tx_call.specs.declared.step.Stepped.{Stepped}
+use Rattle.tx_call.specs.declared.step.Stepped.TheVariants.{Wanting}
+use Rattle.tx_call.specs.Replay.{MayWant}
 use Rattle.tx_call.specs.Sitting.{Effect, Goes, edit_effect, effect}
 use Rattle.tx_call.specs.Tally.{sitting}
 use Rattle.tx_call.proofs.Stepping.{each-ok, goes-in-part, saved-comes, saved-in-part, located-comes, located-in-part}
@@ -13,7 +20,9 @@ returns-in-Change-clause-goes g c =
     ∙ ap (effect g.M.Machine.formatter g.D.Document.longest (sitting (g.D.Document.standing c.args.document.now) c.args.tally.now)) (sym c.in-Change.is)) c.make_changes.ensures.goes
 
 pub returns-in-Change-clause-wanting : goal.returns-in-Change-clause-wanting
-returns-in-Change-clause-wanting g c = each-ok c.make_changes.result _ (λ stepped wanting. subst IsEdit (sym c.in-Change.is) tt)
+returns-in-Change-clause-wanting g c =
+    subst (λ (command : Command). IfOk c.make_changes.result (λ (stepped : Stepped). stepped ≡ Wanting → MayWant (now (g.D.Document.standing c.args.document.now)).files command)) (sym c.in-Change.is)
+    (subst (λ (changes : List Change). IfOk c.make_changes.result (λ (stepped : Stepped). stepped ≡ Wanting → may_want (now (g.D.Document.standing c.args.document.now)).files changes ≡ true)) c.from_ref-changes.ensures.value c.make_changes.ensures.wanting)
 
 pub returns-in-Batch-clause-goes : goal.returns-in-Batch-clause-goes
 returns-in-Batch-clause-goes g c =
@@ -23,7 +32,9 @@ returns-in-Batch-clause-goes g c =
     ∙ ap (effect g.M.Machine.formatter g.D.Document.longest (sitting (g.D.Document.standing c.args.document.now) c.args.tally.now)) (sym c.in-Batch.is)) c.make_changes-in-Batch.ensures.goes
 
 pub returns-in-Batch-clause-wanting : goal.returns-in-Batch-clause-wanting
-returns-in-Batch-clause-wanting g c = each-ok c.make_changes-in-Batch.result _ (λ stepped wanting. subst IsEdit (sym c.in-Batch.is) tt)
+returns-in-Batch-clause-wanting g c =
+    subst (λ (command : Command). IfOk c.make_changes-in-Batch.result (λ (stepped : Stepped). stepped ≡ Wanting → MayWant (now (g.D.Document.standing c.args.document.now)).files command)) (sym c.in-Batch.is)
+    (subst (λ (changes : List Change). IfOk c.make_changes-in-Batch.result (λ (stepped : Stepped). stepped ≡ Wanting → may_want (now (g.D.Document.standing c.args.document.now)).files changes ≡ true)) c.as_slice-changes.ensures c.make_changes-in-Batch.ensures.wanting)
 
 pub returns-in_ok-save_document-in-Save-clause-goes : goal.returns-in_ok-save_document-in-Save-clause-goes
 returns-in_ok-save_document-in-Save-clause-goes g c =
