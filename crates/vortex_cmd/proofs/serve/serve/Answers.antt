@@ -1,4 +1,4 @@
-use Rattle.std.proofs.Common.{◌≡◌, ◌<◌, ◌⊎◌, inl, ⊎_elim, Err, ap, arith, rules}
+use Rattle.std.proofs.Common.{◌≡◌, inl, ⊎_elim, Err, ap, arith, rules}
 use Rattle.tx_main.specs.Turns.{tex}
 use Rattle.tx_call.specs.declared.trouble.Trouble.TheVariants.{Memory, Source, Sink}
 use Rattle.tx_call.specs.declared.trouble.Break.{Break}
