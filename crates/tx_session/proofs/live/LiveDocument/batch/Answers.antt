@@ -1,14 +1,17 @@
-use Rattle.std.proofs.Common.{◌≡◌, ◌≤◌, Option, Some, sym, ap, subst, ◌∙◌}
+use Rattle.std.proofs.Common.{◌≡◌, ◌≤◌, true, Option, Some, sym, ap, subst, ◌∙◌}
 use Rattle.tx_bytes.specs.Files.{Files}
 use Rattle.tx_files.specs.TakenBack.{taken_back}
 use Rattle.tx_machine.specs.Steps.{raised}
 use Rattle.tx_session.specs.declared.kept.Come.{Come}
 use Rattle.tx_session.specs.declared.kept.Earlier.{Earlier}
 use Rattle.tx_session.specs.declared.kept.Made.{Made}
+use Rattle.tx_session.specs.declared.refusal.Refusal.TheVariants.{OutOfMemory}
 use Rattle.tx_session.specs.Cut.{base_of, standing_of, IsBeside, IsSettled, HasCome, ShowsLive}
 use Rattle.tx_session.specs.Held.{Held, held_of, with_files}
-use Rattle.tx_session.specs.Standing.{Standing, made_of, report_since, work_since, turns_since}
-use Rattle.tx_session.proofs.Living.{not-none, restored, restored-standing, shows-alone, shows-live-same, led-now, report-now, work-now, turns-now, settled-now, kept-now, kept-shows}
+use Rattle.tx_session.specs.Refusals.{may_want}
+use Rattle.tx_session.specs.Standing.{Standing, now, made_of, report_since, work_since, turns_since}
+use Rattle.tx_session.proofs.Living.{held-is, not-none, restored, restored-standing, shows-alone, shows-live-same, led-now, report-now, work-now, turns-now, settled-now, kept-now, kept-shows}
+use Rattle.tx_session.proofs.Refusing.{batch-refused, fit-wants}
 use Rattle.tx_session.proofs.Saying.{err-so}
 use Rattle.tx_session.proofs.live.LiveDocument.batch.Goals as goal
 
@@ -276,3 +279,11 @@ returns-in-Err-clause-most g c =
     let some = not-none c.is_empty.ensures c.if-is_empty.false in
     let led = led-now c.self.invariant files changes all before.answer.0 before.small before.ok all_is in
     subst (λ turns. c.make.new.steps ≤ raised c.args.steps.now turns) (turns-now c.self.invariant files changes all before.answer.0 before.small before.ok all_is some ∙ ap (λ (t : Standing). turns_since m t changes) c.self.view_is) (c.make.ensures.bound base led)
+
+pub returns-in_err-keep-in-Ok-Beside-clause-answer : goal.returns-in_err-keep-in-Ok-Beside-clause-answer
+returns-in_err-keep-in-Ok-Beside-clause-answer g c =
+    let inside = c.self.inside in
+    let held : Held = held_of inside.files inside.main inside.date inside.limits in
+    let is : held ≡ now c.args.self.now = held-is c.self.invariant c.self.view_is in
+    batch-refused (now c.args.self.now).files c.args.changes.now c.from_residual-in_err-keep-in-Ok-Beside.result OutOfMemory c.from_residual-in_err-keep-in-Ok-Beside.ensures.1
+    (subst (λ (h : Held). may_want h.files c.args.changes.now ≡ true) is (fit-wants inside.files c.args.changes.now c.in_ok-before.ensures.answer.0))
