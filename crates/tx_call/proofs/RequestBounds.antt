@@ -1,5 +1,6 @@
 -- The turns of requests are bounded by the limits of the document, whatever its files say.
-use Rattle.std.proofs.Common.{◌≡◌, ℕ, suc, ◌+◌, ◌*◌, ◌≤◌, Bool, true, false, cond, List, [], ◌∷◌, ◌++◌, length, refl, subst, arith, suc-mul}
+use Rattle.std.proofs.Common.{◌≡◌, ℕ, suc, ◌+◌, ◌*◌, ◌≤◌, Bool, true, false, cond, List, [], ◌∷◌, ◌++◌, length, Some, None, refl, subst, arith, suc-mul}
+use Rattle.std.specs.Prelude.{unwrap_or}
 use Rattle.tx_files.specs.Changes.{all_fit}
 use Rattle.tx_files.specs.declared.edit.Change.{Change}
 use Rattle.tx_machine.specs.declared.types.Limits.{Limits}
@@ -8,8 +9,9 @@ use Rattle.tx_script.specs.declared.command.Command.{Command as ScriptCommand}
 use Rattle.tx_script.specs.declared.command.Command.TheVariants.{Change as Lone, Batch, Save as SaveAs, Locate}
 use Rattle.tx_request.specs.declared.request.Request.{Request}
 use Rattle.tx_request.specs.declared.request.Request.TheVariants.{Command, File, Page, Log, LogOf}
+use Rattle.tx_session.specs.Refusals.{may_want}
 use Rattle.tx_session.specs.Standing.{Standing, now, settled, keeps, kept, made_of, next_standing, work_since, turns_since}
-use Rattle.tx_call.specs.Answers.{Event, Answered, Wanting, Unread, answer_to, all_came, came, contents_changes, most_changes}
+use Rattle.tx_call.specs.Answers.{Event, Answered, Wanting, Unread, answer_to, all_came, came, contents_changes, edit_wanting, most_changes, nothing}
 use Rattle.tx_call.specs.Sitting.{Sitting, effect}
 use Rattle.tx_call.proofs.TurnBounds.{most_of, work-most}
 
@@ -72,6 +74,11 @@ module _ {S : Type 0} (m : Formatter S) (lawful : IsLawful m) where
       by true = made-limits t changes
       by false = refl
 
+  -- also where memory may be wanting
+  wanted-limits : (t : Sitting) (wants : Bool) → (unwrap_or (cond wants (Some (edit_wanting t)) None) (nothing t)).behind.standing.base.limits ≡ t.standing.base.limits
+  wanted-limits t true = refl
+  wanted-limits t false = refl
+
   came-limits : (t : Sitting) (e : Event) → (came m t e).behind.standing.base.limits ≡ t.standing.base.limits
   came-limits t (Answered (Command (Lone c))) = next-limits t.standing (c ∷ [])
   came-limits t (Answered (Command (Batch changes))) = next-limits t.standing changes
@@ -81,8 +88,8 @@ module _ {S : Type 0} (m : Formatter S) (lawful : IsLawful m) where
   came-limits t (Answered (Page k)) = refl
   came-limits t (Answered Log) = refl
   came-limits t (Answered (LogOf k)) = refl
-  came-limits t (Wanting (Command (Lone c))) = refl
-  came-limits t (Wanting (Command (Batch changes))) = refl
+  came-limits t (Wanting (Command (Lone c))) = wanted-limits t (may_want (now t.standing).files (c ∷ []))
+  came-limits t (Wanting (Command (Batch changes))) = wanted-limits t (may_want (now t.standing).files changes)
   came-limits t (Wanting (Command (SaveAs name))) = refl
   came-limits t (Wanting (Command (Locate at))) = refl
   came-limits t (Wanting (File f)) = refl
