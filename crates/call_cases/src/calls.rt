@@ -7,8 +7,9 @@ use std::alloc::{AllocError, Global};
 use std::{fs, io};
 use tx_bytes::Bytes;
 use tx_cases::{Answers, bytes_of, first_line, first_word, write_bytes, write_hexadecimal};
-use tx_io::{MemorySink, MemorySource};
+use tx_io::{MemoryInlet, MemorySink, MemorySource};
 use tx_machine::CountsTurns;
+use vortex_cmd::serve::serve;
 use vortex_cmd::vortex::vortex;
 
 /// The words of the plain call.
@@ -70,6 +71,8 @@ fn write_compared(
 /// - `file NAME`, a file of the source, whose bytes are in the lines behind it: a line that begins with `|` is one of the
 ///   file, and one that begins with `+` stands there without a line feed; `take NAME FILE`, with the bytes of a real file;
 /// - `fails fetch NUMBER`, `fails say NUMBER` and `fails save NUMBER`, calls that fail, by their numbers from 1 on;
+/// - `requests`, behind all files, of which there is one at least, and in the lines behind it, which are those of a file, what comes
+///   in: then the call is one that serves a document; `fails read NUMBER`, calls of what comes in that fail;
 /// - `given NAME`, a file that was saved by then, which the source has from then on, and `then WORDS`, a further call, in
 ///   their order;
 /// - `saved NAME`, a file of the sink that is shown: one whose name ends with `.dvi` in hexadecimal; `alike NAME OTHER`, two
@@ -119,7 +122,14 @@ fn write_told(
     sink: &mut MemorySink,
     lines: &str,
 ) -> Result<(), AllocError> {
-    write_status(rt, text, words, source, sink)?;
+    match requests_of(rt.alloc(), lines)? {
+        None => write_status(rt, text, words, source, sink)?,
+        Some(requests) => {
+            let failing = failing(rt.alloc(), "fails read ", lines)?;
+            let mut inlet = MemoryInlet::new(requests, failing);
+            write_served(rt, text, words, source, &mut inlet, sink)?;
+        }
+    }
     for line in lines.split('\n') {
         write_later(rt, text, line, source, sink)?;
     }
@@ -174,6 +184,47 @@ fn status_of(
 ) -> Result<u8, AllocError> {
     let words = words_of(rt.alloc(), words)?;
     Ok(vortex(rt.alloc(), words.as_slice(), source, sink, &mut rt.steps()))
+}
+
+/// Writes the status of a call that serves a document.
+fn write_served(
+    rt: &HostRuntime,
+    text: &mut String,
+    words: &str,
+    source: &mut MemorySource,
+    inlet: &mut MemoryInlet,
+    sink: &mut MemorySink,
+) -> Result<(), AllocError> {
+    let words = words_of(rt.alloc(), words)?;
+    let status = serve(
+        rt.alloc(),
+        words.as_slice(),
+        source,
+        inlet,
+        sink,
+        &mut rt.steps(),
+    );
+    write!(text, "status {status}\n")
+}
+
+/// What comes in, where a line behind the first says that something may.
+fn requests_of(alloc: Global, lines: &str) -> Result<Option<Bytes>, AllocError> {
+    match lines.split_once("\nrequests") {
+        None => Ok(None),
+        Some((_, behind)) => {
+            let mut requests = Bytes::new(alloc);
+            append_all(alloc, &mut requests, behind)?;
+            Ok(Some(requests))
+        }
+    }
+}
+
+/// Puts what the lines say at the end of bytes.
+fn append_all(alloc: Global, bytes: &mut Bytes, lines: &str) -> Result<(), AllocError> {
+    for line in lines.split('\n') {
+        append(alloc, bytes, line)?;
+    }
+    Ok(())
 }
 
 fn words_of(alloc: Global, text: &str) -> Result<Vec<String>, AllocError> {
@@ -242,6 +293,8 @@ fn fill(rt: &HostRuntime, file: &mut File, line: &str) -> io::Result<()> {
     } else if let Some(name) = line.strip_prefix("file ") {
         file.name = Bytes::from_slice(alloc, name.as_bytes())?;
         file.bytes = Bytes::new(alloc);
+    } else if line == "requests" {
+        file.name = Bytes::new(alloc);
     } else {
         append(alloc, &mut file.bytes, line)?;
     }

@@ -8,3 +8,13 @@ pub mod Held
 pub mod Chains
 pub mod SaidLines
 pub mod Dvi
+pub mod Agreeing
+pub mod Stepping
+pub mod Answering
+pub mod OneHeard
+pub mod HeardSoFar
+pub mod ServedFiles
+pub mod Unasked
+pub mod Causing
+pub mod Changing
+pub mod RequestBounds

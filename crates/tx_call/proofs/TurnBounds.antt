@@ -16,14 +16,14 @@ use Rattle.tx_session.specs.Held.{Held, fresh, rows_of, changed_session}
 use Rattle.tx_session.specs.Report.{work, turns_of_changes}
 use Rattle.tx_session.proofs.Reusing.{work-least}
 use Rattle.tx_words.specs.declared.given.Asked.{Asked}
-use Rattle.tx_words.specs.declared.given.Asked.TheVariants.{Run, Gen, Listing, Help, RunHelp, GenHelp, ListHelp, Version, Nothing}
+use Rattle.tx_words.specs.declared.given.Asked.TheVariants.{Run, Serve, Gen, Listing, Help, RunHelp, GenHelp, ListHelp, ServeHelp, Version, Nothing}
 use Rattle.tx_call.specs.declared.listed.Listed.{Listed}
 use Rattle.tx_call.specs.declared.listed.Listed.TheVariants.{Brings, Stops}
 use Rattle.tx_call.specs.Listing.{listed_as}
 use Rattle.tx_call.specs.declared.scripted.Scripted.{Scripted}
 use Rattle.tx_call.specs.declared.scripted.Scripted.TheVariants.{Plays, Refused}
 use Rattle.tx_call.specs.Replay.{Moment, opened, next_moment, turns_from}
-use Rattle.tx_call.specs.Outcome.{listing, asked_outcome, document, with_listed, most_of_edits, most_turns}
+use Rattle.tx_call.specs.Outcome.{listing, asked_outcome, document, served, with_listed, most_of_edits, most_turns}
 
 le_trans : (a b c : ℕ) → a ≤ b → b ≤ c → a ≤ c
 le_trans a b c first second = omega arith
@@ -32,7 +32,7 @@ both_most : (a b c d : ℕ) → a ≤ c → b ≤ d → a + b ≤ c + d
 both_most a b c d first second = omega arith
 
 -- what a run of this document may take
-abbrev most_of : Held → ℕ
+abbrev pub most_of : Held → ℕ
 most_of held = (held.limits.pages + 1) * held.limits.budget
 
 module _ {S : Type 0} (m : Formatter S) (lawful : IsLawful m) where
@@ -47,7 +47,7 @@ module _ {S : Type 0} (m : Formatter S) (lawful : IsLawful m) where
       let same : (fresh m held).turns ≡ all_turns (rows_of m held) = ap (λ c. c.turns) (rows-tell m held.files held.limits.budget held.limits.pages (m.start held.date held.main) []) in
       omega (arith, same, fresh-most held)
 
-  work-most : (held : Held) (changes : List Change) → work m held changes ≤ most_of held
+  pub work-most : (held : Held) (changes : List Change) → work m held changes ≤ most_of held
   work-most held changes =
       le_trans (work m held changes) (all_turns (rows_of m (changed_session held changes))) (most_of held)
       (work-least m changes held.limits.pages (rows_of m held) (rows_of m (changed_session held changes))) (rows-most (changed_session held changes))
@@ -76,11 +76,13 @@ module _ {S : Type 0} (m : Formatter S) (lawful : IsLawful m) where
       let d : Held = document given (with_listed held empty given.files) in
       both_most _ _ _ _ (fresh-most d) (commands-most (opened d) commands)
   turns-most (Run given) (Refused place rule) held = omega arith
+  turns-most (Serve serving) scripted held = fresh-most (served serving (with_listed held empty serving.files))
   turns-most (Gen seed pages) scripted held = omega arith
   turns-most (Listing name) scripted held = listing-still (listed_as (content held name))
   turns-most Help scripted held = omega arith
   turns-most RunHelp scripted held = omega arith
   turns-most GenHelp scripted held = omega arith
   turns-most ListHelp scripted held = omega arith
+  turns-most ServeHelp scripted held = omega arith
   turns-most Version scripted held = omega arith
   turns-most Nothing scripted held = omega arith

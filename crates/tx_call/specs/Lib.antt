@@ -8,3 +8,7 @@ pub mod Tally
 pub mod Outcome
 pub mod Fetching
 pub mod Trouble
+pub mod Sitting
+pub mod Answers
+pub mod Serving
+pub mod Hearing

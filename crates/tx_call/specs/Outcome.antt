@@ -1,5 +1,5 @@
 -- What a call puts out, and how it ends.
-use Rattle.std.specs.Prelude.{◌≡◌, ◌≢◌, ℕ, ◌+◌, ◌*◌, ◌≤◌, ◌<◌, ◌⊎◌, List, [], ◌∷◌, ◌++◌, length, Option, Some, None, option_map, IfSome}
+use Rattle.std.specs.Prelude.{◌≡◌, ◌≢◌, ℕ, false, ◌+◌, ◌*◌, ◌≤◌, ◌<◌, ◌⊎◌, List, [], ◌∷◌, ◌++◌, length, Option, Some, None, option_map, IfSome}
 use Rattle.std.specs.FinMap.{empty, insert}
 use Rattle.tx_bytes.specs.Files.{Files, content}
 use Rattle.tx_io.specs.Output.{Output, Piece, Say, told}
@@ -11,8 +11,9 @@ use Rattle.tx_script.specs.declared.command.Command.{Command}
 use Rattle.tx_script.specs.declared.command.Command.TheVariants.{Change as Lone, Batch, Save as SaveAs, Locate}
 use Rattle.tx_session.specs.Held.{Held, fresh}
 use Rattle.tx_words.specs.declared.given.Given.{Given}
+use Rattle.tx_words.specs.declared.given.Serving.{Serving}
 use Rattle.tx_words.specs.declared.given.Asked.{Asked}
-use Rattle.tx_words.specs.declared.given.Asked.TheVariants.{Run, Gen, Listing, Help, RunHelp, GenHelp, ListHelp, Version, Nothing}
+use Rattle.tx_words.specs.declared.given.Asked.TheVariants.{Run, Serve, Gen, Listing, Help, RunHelp, GenHelp, ListHelp, ServeHelp, Version, Nothing}
 use Rattle.tx_call.specs.declared.listed.Listed.{Listed}
 use Rattle.tx_call.specs.declared.listed.Listed.TheVariants.{Brings, Stops}
 use Rattle.tx_call.specs.declared.scripted.Scripted.{Scripted}
@@ -20,7 +21,7 @@ use Rattle.tx_call.specs.declared.scripted.Scripted.TheVariants.{Plays, Refused}
 use Rattle.tx_words.specs.Words.{words_meant}
 use Rattle.tx_gen.specs.Made.{generated}
 use Rattle.tx_call.specs.Listing.{pages_lines, said_lines, dvi_refusal_line, listed_as}
-use Rattle.tx_call.specs.Lines.{run_line, gen_line, help_text, run_help_text, gen_help_text, list_help_text, version_line, refusal_line, script_refusal_line}
+use Rattle.tx_call.specs.Lines.{run_line, gen_line, help_text, run_help_text, gen_help_text, list_help_text, serve_help_text, version_line, refusal_line, script_refusal_line}
 use Rattle.tx_call.specs.Pieces.{saved_pieces, made_files}
 use Rattle.tx_call.specs.Replay.{Moment, Refusal, opened, moment_after, pieces_from, turns_from, refusal_at, refusal_behind, status_after, IsRefused}
 
@@ -69,6 +70,18 @@ document given files = record { files = files; main = given.main; date = given.d
 abbrev pub run_outcome : {S : Type 0} → Formatter S → Given → Files → List Command → Outcome
 run_outcome m given files commands = session_outcome m given.out (document given files) commands
 
+-- a call that serves a document, where nothing comes in, has the line of the run alone
+abbrev pub served : Serving → Files → Held
+served serving files = record { files = files; main = serving.main; date = serving.date; limits = serving.limits }
+
+abbrev pub unasked_outcome : {S : Type 0} → Formatter S → Serving → Files → Outcome
+unasked_outcome m serving files = record {
+  pieces = first_piece (fresh m (served serving files)).ran ∷ [];
+  status = status_after (fresh m (served serving files)).ran.end false;
+  turns = (fresh m (served serving files)).turns;
+  refusal = λ made. None;
+}
+
 -- these files, and the one of this name, if there is one
 abbrev pub with_file : Files → List ℕ → Option (List ℕ) → Files
 with_file files name None = files
@@ -86,12 +99,14 @@ scripted_outcome m given (Refused place rule) held = saying (script_refusal_line
 
 abbrev pub asked_outcome : {S : Type 0} → Formatter S → Asked → Scripted → Files → Outcome
 asked_outcome m (Run given) scripted held = scripted_outcome m given scripted held
+asked_outcome m (Serve serving) scripted held = unasked_outcome m serving (with_listed held empty serving.files)
 asked_outcome m (Gen seed pages) scripted held = making seed pages
 asked_outcome m (Listing name) scripted held = listing (listed_as (content held name))
 asked_outcome m Help scripted held = saying help_text 0
 asked_outcome m RunHelp scripted held = saying run_help_text 0
 asked_outcome m GenHelp scripted held = saying gen_help_text 0
 asked_outcome m ListHelp scripted held = saying list_help_text 0
+asked_outcome m ServeHelp scripted held = saying serve_help_text 0
 asked_outcome m Version scripted held = saying version_line 0
 asked_outcome m Nothing scripted held = saying refusal_line 2
 
@@ -113,6 +128,7 @@ abbrev pub most_turns : Asked → Scripted → ℕ
 most_turns (Run given) (Plays commands) =
     let each = (given.limits.pages + 1) * given.limits.budget in
     each + most_of_edits each commands
+most_turns (Serve serving) scripted = (serving.limits.pages + 1) * serving.limits.budget
 most_turns _ _ = 0
 
 -- some files, which are the source's if it tells what it holds, are so

@@ -11,7 +11,7 @@ use Rattle.tx_machine.specs.Machine.{Formatter}
 use Rattle.tx_script.specs.declared.command.Command.{Command}
 use Rattle.tx_script.specs.declared.command.Command.TheVariants.{Change as Lone, Batch, Save as SaveAs, Locate}
 use Rattle.tx_checkpoint.specs.Locate.{located}
-use Rattle.tx_session.specs.Held.{Held, fresh, rows_of, after_all}
+use Rattle.tx_session.specs.Held.{Held, fresh, rows_of, changed_session, after_all}
 use Rattle.tx_session.specs.Refusals.{may_want}
 use Rattle.tx_session.specs.Report.{report, turns_of_changes}
 use Rattle.tx_call.specs.declared.trouble.Interruption.{Interruption}
@@ -61,7 +61,7 @@ refused_line together number first = if together then batch_outside_line number 
 
 -- what is said of a list of changes, by the first of them that can't be made
 abbrev pub line_by : {S : Type 0} → Formatter S → Moment → Bool → List Change → Option (ℕ × ℕ) → List ℕ
-line_by m t together changes None = edit_line (t.edits + 1) (report m t.held changes) (fresh m (after_all t.held changes)).ran.end
+line_by m t together changes None = edit_line (t.edits + 1) (report m t.held changes) (fresh m (changed_session t.held changes)).ran.end
 line_by m t together changes (Some first) = refused_line together (t.edits + 1) first
 
 abbrev pub line_of : {S : Type 0} → Formatter S → Moment → Bool → List Change → List ℕ

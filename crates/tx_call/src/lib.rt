@@ -5,12 +5,15 @@
 //! where the call was cut short; and what cut it short. Only tested: that it answers anything but want of memory.
 //!
 //! Read `trouble`, `scripted`, `scripts` and `fetching` (what is read from the source), `parts` and `lines` (what is said), `outputs`
-//! (what is put out of a run), `tally` and `replay` (the commands of a script), `made` (what is put out of a document that
-//! was made), `listed`, `listing` and `list` (what is said of a DVI file), and then `run`. What the words ask for is read in
-//! `tx_words`, and documents are made in `tx_gen`.
+//! (what is put out of a run), `tally`, `step` and `replay` (the commands of a script), `made` (what is put out of a document that
+//! was made), `listed`, `listing` and `list` (what is said of a DVI file), and then `run`; of a document that is served `answers`,
+//! `serving` and `serve`, and `laws`. What the words ask for is read in `tx_words`, requests are read in `tx_request`, and documents
+//! are made in `tx_gen`.
 #![tactic(auto)]
 
+mod answers;
 mod fetching;
+pub mod laws;
 mod lines;
 mod list;
 mod listed;
@@ -22,8 +25,12 @@ mod replay;
 mod run;
 mod scripted;
 mod scripts;
+mod serve;
+mod serving;
+mod step;
 mod tally;
 mod trouble;
 
 pub use run::run_words;
-pub use trouble::{Interruption, Trouble};
+pub use serve::serve_words;
+pub use trouble::{Break, Interruption, Trouble};

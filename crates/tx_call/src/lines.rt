@@ -1,7 +1,7 @@
 //! The lines that are said: of runs, of edits, and of what is made or refused.
-ghost use Rattle.std.specs.Prelude.{◌≡◌, ◌++◌, codes, IfOk};
+ghost use Rattle.std.specs.Prelude.{◌≡◌, ◌++◌, codes, option_copied, IfOk};
 ghost use Rattle.std.specs.Fmt.{decimal};
-ghost use Rattle.tx_call.specs.Lines.{place_text, end_text, run_line, edit_line, outside_line, batch_outside_line, memory_line, located_text, locate_line, script_refusal_line, gen_line, help_text, run_help_text, gen_help_text, list_help_text, version_line};
+ghost use Rattle.tx_call.specs.Lines.{place_text, end_text, run_line, edit_line, outside_line, batch_outside_line, memory_line, located_text, locate_line, script_refusal_line, gen_line, help_text, run_help_text, gen_help_text, list_help_text, serve_help_text, saved_line, request_refusal_line, page_head, page_memory_line, bytes_text, version_line};
 
 use crate::parts::{Part, joined};
 use std::alloc::{AllocError, Global};
@@ -198,6 +198,86 @@ pub fn script_refusal_line(alloc: Global, place: u64, rule: Rule) -> Result<Byte
     )
 }
 
+/// The line of a request to save what there is, `saved NAME` and LF.
+#[tactic(auto, unfolding(crate::specs::Lines::saved_line))]
+pub fn saved_line(alloc: Global, name: &[u8]) -> Result<Bytes, AllocError>
+    ensures { IfOk result (λ line. line ≡ saved_line name.now) }
+{
+    joined(
+        alloc,
+        &[Part::Text(b"saved "), Part::Text(name), Part::Text(b"\n")],
+    )
+}
+
+/// The line of bytes that are no request, `request refused, rule R` and LF.
+#[tactic(auto, unfolding(crate::specs::Lines::request_refusal_line))]
+pub fn request_refusal_line(alloc: Global, rule: Rule) -> Result<Bytes, AllocError>
+    ensures { IfOk result (λ line. line ≡ request_refusal_line rule) }
+{
+    joined(
+        alloc,
+        &[
+            Part::Text(b"request refused, rule "),
+            Part::Number(u64::from(rule.number())),
+            Part::Text(b"\n"),
+        ],
+    )
+}
+
+/// What the answer of a page begins with, `page K: `.
+#[tactic(auto, unfolding(crate::specs::Lines::page_head))]
+pub fn page_head(alloc: Global, number: u64) -> Result<Bytes, AllocError>
+    ensures { IfOk result (λ head. head ≡ page_head number) }
+{
+    joined(
+        alloc,
+        &[
+            Part::Text(b"page "),
+            Part::Number(number),
+            Part::Text(b": "),
+        ],
+    )
+}
+
+/// The line of a page for which there was no memory, `page K: memory` and LF.
+#[tactic(auto, unfolding(crate::specs::Lines::page_memory_line))]
+pub fn page_memory_line(alloc: Global, number: u64) -> Result<Bytes, AllocError>
+    ensures { IfOk result (λ line. line ≡ page_memory_line number) }
+{
+    joined(
+        alloc,
+        &[
+            Part::Text(b"page "),
+            Part::Number(number),
+            Part::Text(b": memory\n"),
+        ],
+    )
+}
+
+/// Bytes behind such a beginning: `N bytes` and LF, and these and LF; or `none` and LF.
+#[tactic(auto, unfolding(crate::specs::Lines::bytes_text))]
+pub fn bytes_text<'a>(
+    alloc: Global,
+    head: &'a [u8],
+    bytes: Option<&'a [u8]>,
+) -> Result<Bytes, AllocError>
+    ensures { IfOk result (λ text. text ≡ bytes_text head.now (option_copied bytes.entry)) }
+{
+    match bytes {
+        None => joined(alloc, &[Part::Text(head), Part::Text(b"none\n")]),
+        Some(bytes) => joined(
+            alloc,
+            &[
+                Part::Text(head),
+                Part::Number(bytes.len() as u64),
+                Part::Text(b" bytes\n"),
+                Part::Text(bytes),
+                Part::Text(b"\n"),
+            ],
+        ),
+    }
+}
+
 /// The line of a document that was made, `gen: P pages, P edits` and LF.
 #[tactic(auto, unfolding(crate::specs::Lines::gen_line))]
 pub fn gen_line(alloc: Global, pages: u64) -> Result<Bytes, AllocError>
@@ -232,6 +312,7 @@ Usage: vortex COMMAND\n
   run             formats a document, and again after each edit of a script
   gen             makes a document of many pages, and a script for it
   list            says what the pages of a DVI file bring
+  serve           formats a document, and answers requests as they come in
   help [COMMAND]  says this, or how a command is called
   -h, --help      says this, and behind a command how that is called
   -V, --version   says the version\n
@@ -318,6 +399,41 @@ is of the folder in which it is called.\n
   -h, --help                says this\n
 For example:\n
   vortex list a.dvi\n
+The statuses are those that vortex --help tells.
+"
+}
+
+/// What `help serve` says: how `serve` is called.
+#[tactic(auto, unfolding(crate::specs::Lines::serve_help_text))]
+pub fn serve_help_text() -> &'static [u8]
+    ensures { result.now ≡ serve_help_text }
+{
+    b"Usage: vortex serve --date Y-M-D-T [OPTIONS] MAIN [FILE..]\n
+Formats MAIN, says how many pages it has and how it ended, and then answers the
+requests that come on standard input, one after the other, until it ends: so an
+editor has the pages of a document that is being typed. Files are those of the
+folder in which it is called, as they are then.\n
+  --date Y-M-D-T  the date that TeX sees, T in minutes since midnight, 0 to 1439
+  --budget N      what a page may cost, in steps of TeX, 1 to 1000000000 (1000000)
+  --pages N       a run ends when it has N pages, 1 to 10000 (1000)
+  --keep N        1 to 10000 (10000); it has no effect, all states are kept
+  -h, --help      says this\n
+The requests, and what is said of each:\n
+  edit, remove, batch, locate  as in a script; the line that it says there
+  save NAME                    as in a script; saved NAME
+  file N FILE                  from then on FILE has the N bytes behind this
+                               line, where a line feed follows them; the line
+                               of the edit that does it
+  page K                       page K as a DVI file: page K: N bytes, then those
+                               and a line feed; page K: none if there is none
+  log                          the transcript: log: N bytes, then those and a
+                               line feed
+  log K                        the same of what page K brought to it\n
+Anything else is refused, and the next request begins behind the next line feed.
+For example, where page 1 is asked for after a letter was put in front:\n
+  edit 0 0 1 main.tex
+  a
+  page 1\n
 The statuses are those that vortex --help tells.
 "
 }

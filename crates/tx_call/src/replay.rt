@@ -1,27 +1,21 @@
-//! The commands of a script, one by one.
-ghost use Rattle.std.specs.Prelude.{◌≡◌, ◌∷◌, [], true, ◌+◌, ◌<◌, ◌≤◌, ◌^◌, IfOk, OnOk, IsErrOf};
-ghost use Rattle.tx_io.specs.Output.{Say};
+//! The commands of a script, one by one, each as `step` carries it out.
+ghost use Rattle.std.specs.Prelude.{◌≡◌, ◌+◌, ◌<◌, ◌≤◌, ◌^◌, IfOk, OnOk, IsErrOf};
 ghost use Rattle.tx_machine.specs.Steps.{raised};
-ghost use Rattle.tx_session.specs.Held.{fresh};
-ghost use Rattle.tx_session.specs.Refusals.{may_want};
-ghost use Rattle.tx_session.specs.Report.{turns_of_changes};
-ghost use Rattle.tx_call.specs.Lines.{edit_line as made_line};
-ghost use Rattle.tx_call.specs.Replay.{Puts, Replays, MayWant, opened, next_made, next_moment, moment_after, line_of, refused_line, pieces_at, pieces_from, turns_at, turns_from, refused_pieces, refusal_at};
+ghost use Rattle.tx_call.specs.Replay.{Puts, Replays, MayWant, opened, next_moment, moment_after, pieces_at, pieces_from, turns_at, turns_from, refused_pieces, refusal_at};
 ghost use Rattle.tx_call.specs.Tally.{moment};
 ghost use Rattle.tx_call.specs.Trouble.{PutsOut, SinkCauses, EditCauses};
 
-use crate::lines::{batch_outside_line, edit_line, memory_line, outside_line};
-use crate::outputs::{save_session, say, say_located};
+use crate::lines::memory_line;
+use crate::outputs::{save_document, say};
+use crate::step::{Stepped, step};
 use crate::tally::Tally;
 use crate::trouble::{Interruption, Trouble};
-use std::alloc::{AllocError, Global};
-use std::slice;
-use tx_bytes::Bytes;
-use tx_files::{Change, Name};
+use std::alloc::Global;
+use tx_files::Name;
 use tx_io::Sink;
 use tx_machine::{Machine, Steps};
 use tx_script::Command;
-use tx_session::{Refusal, Report, Session};
+use tx_session::Session;
 
 /// Tells that memory refused the next edit, and saves what there was before it. The first of these outputs that can't be
 /// made is the last one.
@@ -38,94 +32,7 @@ fn tell_refusal<M: Machine, K: Sink>(
 {
     let line = memory_line(alloc, tally.edits + 1)?;
     say(sink, line.as_slice())?;
-    save_session(alloc, out, session, sink)
-}
-
-/// Says what came of changes that were made.
-fn say_made<M: Machine, K: Sink>(
-    alloc: Global,
-    number: u64,
-    report: &Report,
-    session: &Session<M>,
-    sink: &mut K,
-) -> Result<(), Trouble>
-    ensures puts { PutsOut result (K.output sink.old) (Say (made_line number report.now (fresh M.formatter session.now).ran.end) ∷ []) (K.output sink.new) }
-    ensures causes { SinkCauses result (K.faults sink.old) (K.faults sink.new) }
-{
-    let line = edit_line(alloc, number, report, session.end())?;
-    say(sink, line.as_slice())
-}
-
-/// What is said of a change that goes past the end of its file, the first of its batch or one alone.
-fn refused(
-    alloc: Global,
-    together: bool,
-    number: u64,
-    index: u64,
-    len: u64,
-) -> Result<Bytes, AllocError>
-    ensures { IfOk result (λ line. line ≡ refused_line together number (index, len)) }
-{
-    if together {
-        batch_outside_line(alloc, number, index, len)
-    } else {
-        outside_line(alloc, number, len)
-    }
-}
-
-/// Says it.
-fn say_refused<K: Sink>(
-    alloc: Global,
-    together: bool,
-    number: u64,
-    index: u64,
-    len: u64,
-    sink: &mut K,
-) -> Result<(), Trouble>
-    ensures puts { PutsOut result (K.output sink.old) (Say (refused_line together number (index, len)) ∷ []) (K.output sink.new) }
-    ensures causes { SinkCauses result (K.faults sink.old) (K.faults sink.new) }
-{
-    let line = refused(alloc, together, number, index, len)?;
-    say(sink, line.as_slice())
-}
-
-/// Makes a list of changes, which are those of a batch or one change alone, and says what came of it.
-fn run_changes<M: Machine, K: Sink>(
-    alloc: Global,
-    out: &Name,
-    together: bool,
-    changes: &[Change],
-    session: &mut Session<M>,
-    tally: &mut Tally,
-    sink: &mut K,
-    steps: &mut Steps,
-) -> Result<(), Interruption>
-    requires { tally.old.edits + 1 < 2 ^ 64 }
-    ensures moment { OnOk result (moment session.new tally.new ≡ next_made (moment session.old tally.old) changes.now) }
-    ensures puts { Puts (Say (line_of M.formatter (moment session.old tally.old) together changes.now) ∷ []) (refused_pieces M.formatter out.now (moment session.old tally.old)) result (K.output sink.old) (K.output sink.new) }
-    ensures refused { IsErrOf result Interruption.RefusedEdit → may_want session.old.files changes.now ≡ true }
-    ensures counted { OnOk result (steps.new ≡ raised steps.old (turns_of_changes M.formatter session.old changes.now)) }
-    ensures most { steps.new ≤ raised steps.old (turns_of_changes M.formatter session.old changes.now) }
-    ensures causes { EditCauses result (K.faults sink.old) (K.faults sink.new) }
-{
-    match session.batch(changes, steps) {
-        Ok(report) => {
-            tally.edits += 1;
-            say_made(alloc, tally.edits, &report, session, sink)?;
-            Ok(())
-        }
-        Err(Refusal::BatchOutside { index, len }) => {
-            tally.edits += 1;
-            tally.outside = true;
-            say_refused(alloc, together, tally.edits, index, len, sink)?;
-            Ok(())
-        }
-        Err(Refusal::OutOfMemory) => {
-            let _told = tell_refusal(alloc, out, *tally, session, sink);
-            Err(Interruption::RefusedEdit)
-        }
-        Err(Refusal::Outside { .. }) => unreachable!(),
-    }
+    save_document::<M, Session<M>, K>(alloc, out, session, sink)
 }
 
 /// Carries out a command: makes its changes and says what came of it, saves what there is, or says by which page a place is first
@@ -150,23 +57,11 @@ fn run_command<M: Machine, K: Sink>(
     ensures most { steps.new ≤ raised steps.old (turns_at M.formatter (moment session.old tally.old) command.now) }
     ensures causes { EditCauses result (K.faults sink.old) (K.faults sink.new) }
 {
-    match command {
-        Command::Change(change) => {
-            let changes = slice::from_ref(change);
-            run_changes(alloc, out, false, changes, session, tally, sink, steps)
-        }
-        Command::Batch(batch) => {
-            let changes = batch.as_slice();
-            run_changes(alloc, out, true, changes, session, tally, sink, steps)
-        }
-        Command::Save(name) => {
-            save_session(alloc, name, session, sink)?;
-            Ok(())
-        }
-        Command::Locate(at) => {
-            tally.places += 1;
-            say_located(alloc, tally.places, at, session, sink)?;
-            Ok(())
+    match step::<M, Session<M>, K>(alloc, command, session, tally, sink, steps)? {
+        Stepped::Done => Ok(()),
+        Stepped::Wanting => {
+            let _told = tell_refusal(alloc, out, *tally, session, sink);
+            Err(Interruption::RefusedEdit)
         }
     }
 }

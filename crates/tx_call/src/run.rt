@@ -4,23 +4,24 @@ ghost use Rattle.std.specs.FinMap.{empty};
 ghost use Rattle.tx_bytes.specs.Files.{content};
 ghost use Rattle.tx_machine.specs.Steps.{raised};
 ghost use Rattle.tx_call.specs.Listing.{NamesNoDvi, HoldsNoDvi, dvi_refusal_line, listed_as};
-ghost use Rattle.tx_call.specs.Outcome.{saying, making, listing, session_outcome, run_outcome, asked_outcome, outcome, with_listed, ForHeld};
+ghost use Rattle.tx_call.specs.Outcome.{saying, making, listing, session_outcome, unasked_outcome, run_outcome, asked_outcome, outcome, with_listed, ForHeld};
 ghost use Rattle.tx_call.specs.Lines.{script_refusal_line};
 ghost use Rattle.tx_call.specs.Replay.{Replays, opened, turns_from, status_after};
 ghost use Rattle.tx_call.specs.Scripts.{ForScript, NamesNoScript, HoldsNoScript};
 ghost use Rattle.tx_call.specs.Trouble.{EditCauses, AllCauses, Does};
-ghost use Rattle.tx_words.specs.Words.{IsOfFiles, IsWithin, script_asked, dvi_asked, words_meant, texts};
+ghost use Rattle.tx_words.specs.Words.{IsOfFiles, IsServing, IsWithin, script_asked, dvi_asked, words_meant, texts};
 ghost use Rattle.tx_words.specs.declared.given.Asked.TheVariants.{Run, Nothing};
 
 use crate::fetching::fetch_files;
 use crate::lines::{
-    gen_help_text, help_text, list_help_text, run_help_text, script_refusal_line, version_line,
+    gen_help_text, help_text, list_help_text, run_help_text, script_refusal_line, serve_help_text,
+    version_line,
 };
 use crate::list::{fetch_dvi, say_pages};
 use crate::listed::Listed;
 use crate::listing::dvi_refusal_line;
 use crate::made::put_made;
-use crate::outputs::{save_session, say, say_run};
+use crate::outputs::{save_document, say, say_run};
 use crate::replay::replay;
 use crate::scripted::Scripted;
 use crate::scripts::fetch_script;
@@ -33,12 +34,12 @@ use tx_io::{Sink, Source};
 use tx_machine::{End, Machine, Steps};
 use tx_script::{Command, Rule};
 use tx_session::Session;
-use tx_words::given::{Asked, Given};
+use tx_words::given::{Asked, Given, Serving};
 use tx_words::words::read_words;
 
-/// The status after all commands: 1 where the last run ended otherwise than by the end of its text, else 5 where an edit
+/// The status after all commands or requests: 1 where the last run ended otherwise than by the end of its text, else 5 where an edit
 /// went past the end of its file, else 0.
-fn status_after(end: &End, outside: bool) -> u8
+pub fn status_after(end: &End, outside: bool) -> u8
     ensures status { result ≡ status_after end.now outside }
     ensures range { (result < 2) ⊎ (result ≡ 5) }
 {
@@ -66,9 +67,9 @@ fn run_session<M: Machine, K: Sink>(
     ensures most { steps.new ≤ raised steps.old (turns_from M.formatter (opened session.old) commands.now) }
     ensures causes { EditCauses result (K.faults sink.old) (K.faults sink.new) }
 {
-    say_run(alloc, session, sink)?;
+    say_run::<M, Session<M>, K>(alloc, session, sink)?;
     let tally = replay(alloc, out, commands, session, sink, steps)?;
-    save_session(alloc, out, session, sink)?;
+    save_document::<M, Session<M>, K>(alloc, out, session, sink)?;
     Ok(status_after(session.end(), tally.outside))
 }
 
@@ -171,6 +172,55 @@ pub fn run_given<M: Machine + Drop, S: Source, K: Sink>(
     }
 }
 
+/// Runs the main file of a document that is to be served, and says how it came out.
+fn open_unasked<M: Machine + Drop, K: Sink>(
+    alloc: Global,
+    machine: M,
+    serving: &Serving,
+    files: FileSet,
+    sink: &mut K,
+    steps: &mut Steps,
+) -> Result<u8, Interruption>
+    requires { IsServing serving.now }
+    ensures does { Does result (unasked_outcome M.formatter serving.now files) (K.output sink.old) (K.output sink.new) steps.old steps.new }
+    ensures range { IfOk result (λ status. (status < 2) ⊎ (status ≡ 5)) }
+    ensures causes { EditCauses result (K.faults sink.old) (K.faults sink.new) }
+{
+    let main = serving.main.clone()?;
+    let session = Session::open(
+        alloc,
+        machine,
+        files,
+        main,
+        serving.date,
+        serving.limits,
+        steps,
+    )?;
+    say_run::<M, Session<M>, K>(alloc, &session, sink)?;
+    Ok(status_after(session.end(), false))
+}
+
+/// Fetches the files of a document that is to be served, runs the main one, and says how it came out: no request comes in. Answers
+/// the status.
+fn run_unasked<M: Machine + Drop, S: Source, K: Sink>(
+    alloc: Global,
+    machine: M,
+    serving: &Serving,
+    source: &mut S,
+    sink: &mut K,
+    steps: &mut Steps,
+) -> Result<u8, Interruption>
+    requires { IsServing serving.now }
+    ensures does { ForHeld (S.holds source.old) (λ held. Does result (unasked_outcome M.formatter serving.now (with_listed held empty serving.now.files)) (K.output sink.old) (K.output sink.new) steps.old steps.new) }
+    ensures range { IfOk result (λ status. (status < 2) ⊎ (status ≡ 5)) }
+    ensures silent { IsErrOf result (Interruption.Trouble Trouble.Source) → (K.output sink.new ≡ K.output sink.old) × (steps.new ≡ steps.old) }
+    ensures causes { AllCauses result (S.faults source.old) (S.faults source.new) (K.faults sink.old) (K.faults sink.new) }
+    ensures holds { S.holds source.new ≡ S.holds source.old }
+{
+    let files = fetch_files(alloc, serving.files.as_slice(), source)?;
+    open_unasked(alloc, machine, serving, files, sink, steps)
+}
+
 /// Makes a document of so many pages from a seed, saves its files, says how large it is, and answers the status.
 fn run_gen<K: Sink>(alloc: Global, seed: u32, pages: u32, sink: &mut K) -> Result<u8, Interruption>
     ensures does { (steps : ℕ) → Does result (making seed pages) (K.output sink.old) (K.output sink.new) steps steps }
@@ -240,12 +290,14 @@ pub fn run_words<M: Machine + Drop, S: Source, K: Sink>(
 {
     match read_words(alloc, words)? {
         Asked::Run(given) => run_given(alloc, machine, &given, source, sink, steps),
+        Asked::Serve(serving) => run_unasked(alloc, machine, &serving, source, sink, steps),
         Asked::Gen { seed, pages } => run_gen(alloc, seed, pages, sink),
         Asked::Listing(name) => list_file(alloc, &name, source, sink),
         Asked::Help => say_only(sink, help_text(), 0),
         Asked::RunHelp => say_only(sink, run_help_text(), 0),
         Asked::GenHelp => say_only(sink, gen_help_text(), 0),
         Asked::ListHelp => say_only(sink, list_help_text(), 0),
+        Asked::ServeHelp => say_only(sink, serve_help_text(), 0),
         Asked::Version => say_only(sink, version_line(), 0),
         Asked::Nothing => say_only(sink, b"words refused\n", 2),
     }

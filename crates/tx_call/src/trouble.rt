@@ -2,6 +2,7 @@
 ghost use Rattle.std.specs.Prelude.{◌≡◌};
 ghost use Rattle.tx_call.specs.declared.trouble.Trouble.TheVariants.{Memory};
 ghost use Rattle.tx_call.specs.declared.trouble.Interruption.TheVariants as interruption;
+ghost use Rattle.tx_call.specs.declared.trouble.Break.TheVariants as breaks;
 
 use std::alloc::AllocError;
 use thiserror::Error;
@@ -53,5 +54,32 @@ impl From<AllocError> for Interruption {
 
     fn from(_: AllocError) -> Interruption {
         Interruption::Trouble(Trouble::Memory)
+    }
+}
+
+/// What ends a call that serves before all that comes in is answered.
+#[derive(Clone, Copy, Debug, Error)]
+pub enum Break {
+    /// Trouble with memory, the source or the sink.
+    #[error("{0}")]
+    Trouble(Trouble),
+    /// What comes in couldn't be read, and the inlet has counted a fault.
+    #[error("a request couldn't be read")]
+    Inlet,
+}
+
+impl From<Trouble> for Break {
+    ghost from_gives = { λ trouble e. e ≡ breaks.Trouble trouble };
+
+    fn from(trouble: Trouble) -> Break {
+        Break::Trouble(trouble)
+    }
+}
+
+impl From<AllocError> for Break {
+    ghost from_gives = { λ _ e. e ≡ breaks.Trouble Memory };
+
+    fn from(_: AllocError) -> Break {
+        Break::Trouble(Trouble::Memory)
     }
 }

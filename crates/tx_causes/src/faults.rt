@@ -30,7 +30,7 @@ fn kind_text(kind: ErrorKind) -> Option<&'static str> {
 }
 
 /// Writes an error of the system in words.
-fn write_error(text: &mut String, error: &io::Error) -> Result<(), AllocError> {
+pub fn write_error(text: &mut String, error: &io::Error) -> Result<(), AllocError> {
     match kind_text(error.kind()) {
         Some(words) => text.push_str(words),
         None => write!(text, "{error}"),
@@ -107,16 +107,21 @@ fn write_fault(
     }
 }
 
-/// Writes why something couldn't be put out, and what was saved before.
+/// Writes why something couldn't be put out.
+pub fn write_unput_cause(text: &mut String, cause: Option<&Cause>) -> Result<(), AllocError> {
+    match cause {
+        Some(Cause { name, error }) => write_fault(text, name, error),
+        None => text.push_str("something couldn't be put out"),
+    }
+}
+
+/// The same, and what was saved before.
 pub fn write_put_cause(
     text: &mut String,
     cause: Option<&Cause>,
     saved: &[Bytes],
 ) -> Result<(), AllocError> {
-    match cause {
-        Some(Cause { name, error }) => write_fault(text, name, error)?,
-        None => text.push_str("something couldn't be put out")?,
-    }
+    write_unput_cause(text, cause)?;
     text.push_str("; ")?;
     write_saved(text, saved)
 }

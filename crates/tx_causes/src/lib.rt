@@ -3,7 +3,7 @@
 //! it is safe: the words are tested, by `tools/check-program`.
 //!
 //! Read `run` (what a call was to run), `ends` (how a run ended), `outside` (edits), `dates`, `names` and `refusals` (words),
-//! `scripts`, `listings` (DVI files), `faults` (the system's errors), `memory`, and then `causes` and `telling`.
+//! `scripts`, `listings` (DVI files), `serving`, `faults` (the system's errors), `memory`, and then `causes` and `telling`.
 #![tactic(auto)]
 
 pub mod causes;
@@ -17,4 +17,5 @@ mod outside;
 pub mod refusals;
 pub mod run;
 mod scripts;
+pub mod serving;
 pub mod telling;

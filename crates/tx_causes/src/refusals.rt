@@ -69,10 +69,10 @@ fn write_kind(
         ErrorKind::UnknownArgument => write!(text, "{thing}: no such option here"),
         ErrorKind::InvalidSubcommand => write!(
             text,
-            "{thing}: no such command, it is run, gen or list"
+            "{thing}: no such command, it is run, gen, list or serve"
         ),
         ErrorKind::MissingSubcommand => text.push_str(
-            "no command is given, it is run, gen or list",
+            "no command is given, it is run, gen, list or serve",
         ),
         ErrorKind::ArgumentConflict => write!(text, "{}: given twice", option_of(thing)),
         ErrorKind::InvalidValue => {
@@ -131,20 +131,36 @@ fn write_list_cause(text: &mut String, found: &ArgMatches<'_>) -> Result<(), All
     write_option(text, "FILE", found.get_str("file"))
 }
 
-/// Writes what is wrong with the values that `run` is given first, if something is.
-fn write_run_cause(text: &mut String, found: &ArgMatches<'_>) -> Result<(), AllocError> {
+/// Writes what is wrong with the date and the limits that `run` or `serve` is given first, if something is.
+fn write_limits_cause(text: &mut String, found: &ArgMatches<'_>) -> Result<(), AllocError> {
     if let Some(date) = found.get_str("date") {
         write_date_cause(text, date)?;
     }
     write_number(text, "--budget", 1, 1_000_000_000, found.get_str("budget"))?;
     write_number(text, "--pages", 1, 10_000, found.get_str("pages"))?;
-    write_number(text, "--keep", 1, 10_000, found.get_str("keep"))?;
-    write_option(text, "--out", found.get_str("out"))?;
-    write_option(text, "--script", found.get_str("script"))?;
+    write_number(text, "--keep", 1, 10_000, found.get_str("keep"))
+}
+
+/// Writes what is wrong with the files that they are given, if it is the first where something is.
+fn write_names_cause(text: &mut String, found: &ArgMatches<'_>) -> Result<(), AllocError> {
     match found.get_raw("file") {
         Some(names) if text.is_empty() => write_files_cause(text, names),
         _ => Ok(()),
     }
+}
+
+/// Writes what is wrong with the values that `run` is given first, if something is.
+fn write_run_cause(text: &mut String, found: &ArgMatches<'_>) -> Result<(), AllocError> {
+    write_limits_cause(text, found)?;
+    write_option(text, "--out", found.get_str("out"))?;
+    write_option(text, "--script", found.get_str("script"))?;
+    write_names_cause(text, found)
+}
+
+/// Writes what is wrong with the values that `serve` is given first, if something is.
+fn write_serve_cause(text: &mut String, found: &ArgMatches<'_>) -> Result<(), AllocError> {
+    write_limits_cause(text, found)?;
+    write_names_cause(text, found)
 }
 
 /// Writes what is wrong with the words behind `help`.
@@ -152,7 +168,7 @@ fn write_help_cause(text: &mut String, words: &[String]) -> Result<(), AllocErro
     match words {
         [command] => write!(
             text,
-            "{}: no such command, it is run, gen or list",
+            "{}: no such command, it is run, gen, list or serve",
             command.as_str()
         ),
         _ => text.push_str("help: it takes one command"),
@@ -173,6 +189,7 @@ fn write_fault(
             Ok(matches) => match matches.subcommand() {
                 Some((name, found)) if name == "gen" => write_gen_cause(text, found),
                 Some((name, found)) if name == "list" => write_list_cause(text, found),
+                Some((name, found)) if name == "serve" => write_serve_cause(text, found),
                 Some((_, found)) => write_run_cause(text, found),
                 None => Ok(()),
             },
@@ -186,6 +203,7 @@ fn help_for(words: &[String]) -> &'static str {
         [first, ..] if first.as_str() == "run" => "vortex run --help",
         [first, ..] if first.as_str() == "gen" => "vortex gen --help",
         [first, ..] if first.as_str() == "list" => "vortex list --help",
+        [first, ..] if first.as_str() == "serve" => "vortex serve --help",
         _ => "vortex --help",
     }
 }

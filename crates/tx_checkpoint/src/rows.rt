@@ -1,5 +1,5 @@
 //! The rows of a run, the greatest one up to which changes leave all reads as they are, and the one that first read a place.
-ghost use Rattle.std.specs.Prelude.{◌≡◌};
+ghost use Rattle.std.specs.Prelude.{◌≡◌, ◌++◌};
 ghost use Rattle.std.specs.FinMap.{get};
 ghost use Rattle.std.specs.List.{prefix_len};
 ghost use Rattle.tx_checkpoint.specs.Locate as locate;
@@ -7,7 +7,7 @@ ghost use Rattle.tx_checkpoint.specs.Resume.{resume, stays, all_stay};
 ghost use Rattle.tx_files.specs.Reads as reads;
 
 use crate::located::Located;
-use crate::row::{Row, Rows};
+use crate::row::{Last, Row, Rows};
 use tx_files::{Change, Extent, Name, Seen, untouched};
 
 /// Whether all that was read of a file lies before a place in it.
@@ -43,26 +43,46 @@ fn located_at(passed: usize, rows: usize, left: bool) -> Located
     }
 }
 
-impl<S> Rows<S> {
-    /// How many of the first rows an edit at a place of the file of this name leaves.
-    fn passed(&self, name: &Name, place: u64) -> usize
-        ensures { result ≡ prefix_len (locate.passes name.now place) self.now.rows.items }
-    {
-        let mut passed = 0;
-        for row in &self.rows {
-            if !leaves(&row.seen, name, place) {
-                return passed;
-            }
-            passed += 1;
+/// How many of the first rows of some an edit at a place of the file of this name leaves.
+fn passed<S>(rows: &[Row<S>], name: &Name, place: u64) -> usize
+    ensures { result ≡ prefix_len (locate.passes name.now place) rows.now }
+{
+    let mut passed = 0;
+    for row in rows {
+        if !leaves(&row.seen, name, place) {
+            return passed;
         }
-        passed
+        passed += 1;
     }
+    passed
+}
 
+/// The first row whose reads an edit at a place of the file of this name touches, where a run has these rows, then those behind
+/// them, and this last stretch. It takes no memory.
+pub fn locate_between<S>(
+    first: &[Row<S>],
+    others: &[Row<S>],
+    last: &Last,
+    name: &Name,
+    place: u64,
+) -> Located
+    ensures { result ≡ locate.located_in (first.now ++ others.now) last.now name.now place }
+{
+    let before = passed(first, name, place);
+    if before < first.len() {
+        return Located::Page(before + 1);
+    }
+    let behind = passed(others, name, place);
+    let left = leaves(&last.seen, name, place);
+    located_at(before + behind, first.len() + others.len(), left)
+}
+
+impl<S> Rows<S> {
     /// The first row whose reads an edit at a place of the file of this name touches. It takes no memory.
     pub fn locate(&self, name: &Name, place: u64) -> Located
         ensures { result ≡ locate.located_in self.now.rows.items self.now.last name.now place }
     {
-        let passed = self.passed(name, place);
+        let passed = passed(self.rows.as_slice(), name, place);
         let left = leaves(&self.last.seen, name, place);
         located_at(passed, self.rows.len(), left)
     }

@@ -1,5 +1,6 @@
 pub mod Faults
 pub mod Source
+pub mod Inlet
 pub mod Output
 pub mod Sink
 pub mod Cut

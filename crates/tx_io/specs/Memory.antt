@@ -1,4 +1,4 @@
--- What a source and a sink in memory are made of.
+-- What a source, an inlet and a sink in memory are made of.
 use Rattle.std.specs.Prelude.{ℕ, ◌+◌, ◌-◌, ◌^◌, min, List, Contains, refl}
 use Rattle.std.specs.Coded.{Coded, code_by, coded×, coded_ℕ, coded_list}
 use Rattle.std.specs.FinMap as map
@@ -35,6 +35,12 @@ pub record SinkMemory : Type 0 where
   pub saves : Plan
   pub faults : ℕ
 
+-- an inlet: the bytes that are still to come, its calls and its faults
+pub record InletMemory : Type 0 where
+  pub left : List ℕ
+  pub reads : Plan
+  pub faults : ℕ
+
 abbrev pub files_code : Coded Files
 files_code = map.code (coded_list coded_ℕ) (coded_list coded_ℕ)
 
@@ -54,3 +60,8 @@ abbrev pub sink_code : Coded SinkMemory
 sink_code =
     code_by (Output × (Plan × (Plan × ℕ))) (coded× output_code (coded× plan_code (coded× plan_code coded_ℕ))) (λ s. (s.output, (s.says, (s.saves, s.faults))))
     (λ p. record { output = p.0; says = p.1.0; saves = p.1.1.0; faults = p.1.1.1 }) (λ _. refl)
+
+abbrev pub inlet_code : Coded InletMemory
+inlet_code =
+    code_by (List ℕ × (Plan × ℕ)) (coded× (coded_list coded_ℕ) (coded× plan_code coded_ℕ)) (λ s. (s.left, (s.reads, s.faults)))
+    (λ p. record { left = p.0; reads = p.1.0; faults = p.1.1 }) (λ _. refl)

@@ -18,6 +18,8 @@ pub struct DirSink<'a, R: Files + Print> {
     rt: &'a R,
     alloc: Global,
     read: &'a FilesRead,
+    /// Whether what was said, and the names of what was saved, are kept.
+    keeps: bool,
     faults: u64,
     said: Bytes,
     saved: Vec<Bytes>,
@@ -41,11 +43,21 @@ impl<'a, R: Files + Print> DirSink<'a, R> {
             rt,
             alloc,
             read,
+            keeps: true,
             faults: 0,
             said: Bytes::new(alloc),
             saved: Vec::new(alloc),
             cause: None,
         }
+    }
+
+    /// The same, of which nothing is kept that was put out, however much that may be.
+    pub fn passing(rt: &'a R, alloc: Global, read: &'a FilesRead) -> Self
+        ensures { result ≡ 0 }
+    {
+        let mut sink = DirSink::new(rt, alloc, read);
+        sink.keeps = false;
+        sink
     }
 
     /// What was said, each text that was taken whole, as far as there was memory to keep it.
@@ -97,7 +109,7 @@ impl<'a, R: Files + Print> Sink for DirSink<'a, R> {
 
     fn say(&mut self, bytes: &[u8]) -> Put {
         let written = io::writer(self.rt).write_all(bytes);
-        if written.is_ok() {
+        if self.keeps && written.is_ok() {
             let _ = self.said.append(bytes);
         }
         self.answer(None, written)
@@ -106,7 +118,7 @@ impl<'a, R: Files + Print> Sink for DirSink<'a, R> {
     /// A file that was read is left as it is: to save over it counts a fault.
     fn save(&mut self, name: &[u8], bytes: &[u8]) -> Put {
         let written = save_file(self.rt, self.alloc, self.read, name, bytes);
-        if written.is_ok() {
+        if self.keeps && written.is_ok() {
             let _ = self.note_saved(name);
         }
         self.answer(Some(name), written)

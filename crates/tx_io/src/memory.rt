@@ -1,15 +1,17 @@
-//! A source and a sink in memory that fail where they are told to.
-ghost use Rattle.std.specs.Prelude.{◌≡◌, ◌↔◌, [], Some, None, IfSome, OnOk, OnErr, IsTrue};
+//! A source, an inlet and a sink in memory that fail where they are told to.
+ghost use Rattle.std.specs.Prelude.{◌≡◌, ◌↔◌, [], take, Some, None, IfSome, OnOk, OnErr, IsTrue};
 ghost use Rattle.std.specs.FinMap.{empty, insert};
 ghost use Rattle.tx_bytes.specs.Files.{content};
 ghost use Rattle.tx_io.specs.Source.{FetchGives, FetchCause};
+ghost use Rattle.tx_io.specs.Inlet.{ComesFrom, ComeCause, PassGives, PassCause, line_of};
 ghost use Rattle.tx_io.specs.Output.{Say, Save};
 ghost use Rattle.tx_io.specs.Sink.{PutGives, PutCause};
 ghost use Rattle.tx_io.specs.Memory.{Fails, next_call, one_up};
 
+use crate::inlet::{Came, Inlet, Passed};
 use crate::sink::{Put, Sink};
 use crate::source::{Fetched, Source};
-use crate::steady::{SteadySink, SteadySource};
+use crate::steady::{SteadyInlet, SteadySink, SteadySource};
 use std::alloc::{AllocError, Global};
 use std::marker::Model;
 use tx_bytes::Bytes;
@@ -115,6 +117,89 @@ impl Source for MemorySource {
             return Fetched::Failed;
         }
         self.source.fetch(alloc, name)
+    }
+}
+
+/// An inlet in memory, for tests: of its calls those fail whose numbers were listed, and take nothing.
+#[derive(Drop)]
+pub struct MemoryInlet {
+    inlet: SteadyInlet,
+    reads: Calls,
+    faults: u64,
+}
+
+impl Model for MemoryInlet {
+    ghost use Rattle.tx_io.specs.Memory.{InletMemory, inlet_code};
+
+    ghost Value = { InletMemory };
+
+    ghost coded = { inlet_code };
+
+    ghost view = { λ s. record {
+      left = s.inlet;
+      reads = s.reads;
+      faults = s.faults;
+    } };
+}
+
+impl MemoryInlet {
+    /// An inlet of which these bytes come, and the numbers of the calls that are to fail, counted from 1; takes no memory.
+    pub fn new(bytes: Bytes, failing: Vec<u64>) -> MemoryInlet
+        ensures left { result.left ≡ bytes }
+        ensures failing { result.reads.failing ≡ failing.items }
+        ensures made { result.reads.made ≡ 0 }
+        ensures faults { result.faults ≡ 0 }
+    {
+        MemoryInlet {
+            inlet: SteadyInlet::new(bytes),
+            reads: Calls::new(failing),
+            faults: 0,
+        }
+    }
+}
+
+impl Inlet for MemoryInlet {
+    ghost left = { λ s. Some s.left };
+
+    ghost faults = { λ s. s.faults };
+
+    fn line(&mut self, alloc: Global, most: usize) -> Came
+        ensures gives { ComesFrom result (λ bytes. take most (line_of bytes)) (Some self.old.left) (Some self.new.left) }
+        ensures cause { ComeCause result self.old.faults self.new.faults }
+        ensures counted { self.new.reads ≡ next_call self.old.reads }
+        ensures fails { (result ≡ Came.Failed) ↔ Fails self.new.reads }
+    {
+        if self.reads.next_fails() {
+            self.faults = self.faults.saturating_add(1);
+            return Came::Failed;
+        }
+        self.inlet.line(alloc, most)
+    }
+
+    fn bytes(&mut self, alloc: Global, count: usize) -> Came
+        ensures gives { ComesFrom result (λ bytes. take count bytes) (Some self.old.left) (Some self.new.left) }
+        ensures cause { ComeCause result self.old.faults self.new.faults }
+        ensures counted { self.new.reads ≡ next_call self.old.reads }
+        ensures fails { (result ≡ Came.Failed) ↔ Fails self.new.reads }
+    {
+        if self.reads.next_fails() {
+            self.faults = self.faults.saturating_add(1);
+            return Came::Failed;
+        }
+        self.inlet.bytes(alloc, count)
+    }
+
+    fn pass_line(&mut self) -> Passed
+        ensures gives { PassGives result (Some self.old.left) (Some self.new.left) }
+        ensures cause { PassCause result self.old.faults self.new.faults }
+        ensures counted { self.new.reads ≡ next_call self.old.reads }
+        ensures fails { (result ≡ Passed.Failed) ↔ Fails self.new.reads }
+    {
+        if self.reads.next_fails() {
+            self.faults = self.faults.saturating_add(1);
+            return Passed::Failed;
+        }
+        self.inlet.pass_line()
     }
 }
 

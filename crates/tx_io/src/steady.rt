@@ -1,12 +1,15 @@
-//! A source and a sink in memory that never fail.
-ghost use Rattle.std.specs.Prelude.{◌≡◌, Some, IfSome, OnOk, OnErr, []};
+//! A source, an inlet and a sink in memory that never fail.
+ghost use Rattle.std.specs.Prelude.{◌≡◌, ◌≤◌, Some, IfSome, OnOk, OnErr, [], length, take};
 ghost use Rattle.std.specs.FinMap.{empty, insert};
 ghost use Rattle.tx_bytes.specs.Files.{content};
 ghost use Rattle.tx_io.specs.Source.{FetchGives, FetchCause};
+ghost use Rattle.tx_io.specs.Inlet as spec;
+ghost use Rattle.tx_io.specs.Inlet.{ComesFrom, ComeCause, PassGives, PassCause, line_of};
 ghost use Rattle.tx_io.specs.Output.{Say, Save};
 ghost use Rattle.tx_io.specs.Sink.{PutGives, PutCause};
 
 use crate::file_map::FileMap;
+use crate::inlet::{Came, Inlet, Passed};
 use crate::sink::{Put, Sink};
 use crate::source::{Fetched, Source};
 use std::alloc::{AllocError, Global};
@@ -66,6 +69,100 @@ impl Source for SteadySource {
                 Err(_) => Fetched::OutOfMemory,
             },
         }
+    }
+}
+
+/// How long the first line of some bytes is, with its LF; all of them where none comes.
+fn line_len(bytes: &[u8]) -> usize
+    ensures len { result ≡ spec.line_len bytes.now }
+    ensures within { result ≤ length bytes.now }
+{
+    for (at, byte) in bytes.iter().enumerate() {
+        if *byte == b'\n' {
+            return at + 1;
+        }
+    }
+    bytes.len()
+}
+
+/// An inlet in memory that never fails.
+#[derive(Drop)]
+pub struct SteadyInlet {
+    /// All that comes.
+    all: Bytes,
+    /// How many of these bytes are still to come.
+    left: usize,
+}
+
+impl Model for SteadyInlet {
+    ghost use Rattle.std.specs.Prelude.{List, ℕ, ◌-◌, ◌≤◌, length, drop};
+
+    ghost Value = { List ℕ };
+
+    ghost view = { λ s. drop (length s.all - s.left) s.all };
+
+    ghost invariant = { λ s. s.left ≤ length s.all };
+}
+
+impl SteadyInlet {
+    /// An inlet of which these bytes come; takes no memory.
+    pub fn new(bytes: Bytes) -> SteadyInlet
+        ensures { result ≡ bytes }
+    {
+        let left = bytes.len();
+        SteadyInlet { all: bytes, left }
+    }
+
+    // The bytes that are still to come, lent.
+    fn left(&self) -> &[u8]
+        ensures { result.now ≡ self.now }
+    {
+        &self.all.as_slice()[self.all.len() - self.left..]
+    }
+
+    // Takes the first of them, so many.
+    fn advance(&mut self, alloc: Global, count: usize) -> Came
+        requires { count ≤ length self.old }
+        ensures gives { ComesFrom result (λ left. take count left) (Some self.old) (Some self.new) }
+        ensures cause { ComeCause result 0 0 }
+    {
+        match Bytes::from_slice(alloc, &self.left()[..count]) {
+            Ok(bytes) => {
+                self.left -= count;
+                Came::Here(bytes)
+            }
+            Err(_) => Came::OutOfMemory,
+        }
+    }
+}
+
+impl Inlet for SteadyInlet {
+    ghost left = { λ s. Some s };
+
+    ghost faults = { λ _. 0 };
+
+    fn line(&mut self, alloc: Global, most: usize) -> Came
+        ensures gives { ComesFrom result (λ bytes. take most (line_of bytes)) (Some self.old) (Some self.new) }
+        ensures cause { ComeCause result 0 0 }
+    {
+        let count = line_len(self.left()).min(most);
+        self.advance(alloc, count)
+    }
+
+    fn bytes(&mut self, alloc: Global, count: usize) -> Came
+        ensures gives { ComesFrom result (λ bytes. take count bytes) (Some self.old) (Some self.new) }
+        ensures cause { ComeCause result 0 0 }
+    {
+        let count = self.left().len().min(count);
+        self.advance(alloc, count)
+    }
+
+    fn pass_line(&mut self) -> Passed
+        ensures gives { PassGives result (Some self.old) (Some self.new) }
+        ensures cause { PassCause result 0 0 }
+    {
+        self.left -= line_len(self.left());
+        Passed::Done
     }
 }
 

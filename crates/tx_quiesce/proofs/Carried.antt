@@ -79,9 +79,15 @@ module _ {S M : Type 0} (meaning : S → M) (changes : List Change) where
   further_last last h (Goes rows) is = is.last_is
   further_last last h (Stands end) is = sym (ap (λ (it : History M). it.last) is)
 
-  pub reused-rows : {old new : Rows S} {kept : ℕ} {h whole : History M} {later : Later S} → AreRows meaning old h → IsLater meaning changes old h later whole → AreReused changes old kept later new
-      → AreRows meaning new (behind (take kept h.pages) whole)
-  reused-rows {old = old} {new = new} {kept = kept} {h = h} {whole = whole} {later = later} olds is are =
+  -- the first pages of an old run, and what comes later behind them
+  pub record LaterTells (old : Rows S) (kept : ℕ) (later : Later S) (h : History M) : Type 0 where
+    pub pages : take kept old.pages.items ++ (later.front.pages.items ++ (take later.count (drop later.from old.pages.items) ++ pages_of later.further)) ≡ map (λ page. page.body) h.pages
+    pub pieces : take kept old.pieces.items ++ (later.front.pieces.items ++ (take later.count (drop later.from old.pieces.items) ++ pieces_of later.further)) ≡ map (λ page. page.piece) h.pages
+    pub rows : rows_meant meaning (take kept old.rows.items ++ (later.front.rows.items ++ (map (carried_row changes) (take later.count (drop later.from old.rows.items)) ++ rows_of later.further))) ≡ rows_in h.pages
+    pub last : last_of changes old.last later.further ≡ h.last
+
+  pub later-tells : {old : Rows S} {kept : ℕ} {h whole : History M} {later : Later S} → AreRows meaning old h → IsLater meaning changes old h later whole → LaterTells old kept later (behind (take kept h.pages) whole)
+  later-tells {old = old} {kept = kept} {h = h} {whole = whole} {later = later} olds is =
       let middle : List (PageRow M) = take later.count (map (carried_page changes) (drop later.from h.pages)) in
       let whole_pages : whole.pages ≡ is.formatted ++ (middle ++ is.more.pages) = ap (λ it. it.pages) is.whole_is in
       let bodies : map (λ (page : PageRow M). page.body) middle ≡ take later.count (drop later.from (map (λ (page : PageRow M). page.body) h.pages)) =
@@ -94,17 +100,25 @@ module _ {S M : Type 0} (meaning : S → M) (changes : List Change) where
       carried_meant (take later.count (drop later.from old.rows.items))
       ∙ ap (map (carried_row changes)) (sym (take-map (row_meant meaning) later.count (drop later.from old.rows.items)) ∙ ap (take later.count) (sym (drop-map (row_meant meaning) later.from old.rows.items)) ∙ ap (λ xs. take later.count (drop later.from xs)) olds.rows_are) in
       record {
-        pages_are = are.pages_are
-            ∙ (λ i. take kept (olds.pages_are i) ++ (is.pages_are i ++ ((ap (λ xs. take later.count (drop later.from xs)) olds.pages_are ∙ sym bodies) i ++ further_pages old.last is.more later.further is.more_is i)))
+        pages = (λ i. take kept (olds.pages_are i) ++ (is.pages_are i ++ ((ap (λ xs. take later.count (drop later.from xs)) olds.pages_are ∙ sym bodies) i ++ further_pages old.last is.more later.further is.more_is i)))
             ∙ sym (four_parts (λ (page : PageRow M). page.body) kept h.pages is.formatted middle is.more.pages) ∙ ap (λ pages. map (λ (page : PageRow M). page.body) (take kept h.pages ++ pages)) (sym whole_pages);
-        pieces_are = are.pieces_are
-            ∙ (λ i. take kept (olds.pieces_are i) ++ (is.pieces_are i ++ ((ap (λ xs. take later.count (drop later.from xs)) olds.pieces_are ∙ sym pieces) i ++ further_pieces old.last is.more later.further is.more_is i)))
+        pieces = (λ i. take kept (olds.pieces_are i) ++ (is.pieces_are i ++ ((ap (λ xs. take later.count (drop later.from xs)) olds.pieces_are ∙ sym pieces) i ++ further_pieces old.last is.more later.further is.more_is i)))
             ∙ sym (four_parts (λ (page : PageRow M). page.piece) kept h.pages is.formatted middle is.more.pages) ∙ ap (λ pages. map (λ (page : PageRow M). page.piece) (take kept h.pages ++ pages)) (sym whole_pages);
-        rows_are = ap (rows_meant meaning) are.rows_are
-            ∙ four_parts (row_meant meaning) kept old.rows.items later.front.rows.items (map (carried_row changes) (take later.count (drop later.from old.rows.items))) (rows_of later.further)
+        rows = four_parts (row_meant meaning) kept old.rows.items later.front.rows.items (map (carried_row changes) (take later.count (drop later.from old.rows.items))) (rows_of later.further)
             ∙ (λ i. take kept (olds.rows_are i) ++ (is.rows_are i ++ ((moved ∙ sym rows) i ++ further_rows old.last is.more later.further is.more_is i)))
             ∙ sym (four_parts (λ (page : PageRow M). page.row) kept h.pages is.formatted middle is.more.pages) ∙ ap (λ pages. map (λ (page : PageRow M). page.row) (take kept h.pages ++ pages)) (sym whole_pages);
-        last_is = are.last_is ∙ further_last old.last is.more later.further is.more_is ∙ sym (ap (λ it. it.last) is.whole_is);
+        last = further_last old.last is.more later.further is.more_is ∙ sym (ap (λ it. it.last) is.whole_is);
+      }
+
+  pub reused-rows : {old new : Rows S} {kept : ℕ} {h whole : History M} {later : Later S} → AreRows meaning old h → IsLater meaning changes old h later whole → AreReused changes old kept later new
+      → AreRows meaning new (behind (take kept h.pages) whole)
+  reused-rows {old = old} {kept = kept} {h = h} {whole = whole} {later = later} olds is are =
+      let tells : LaterTells old kept later (behind (take kept h.pages) whole) = later-tells olds is in
+      record {
+        pages_are = are.pages_are ∙ tells.pages;
+        pieces_are = are.pieces_are ∙ tells.pieces;
+        rows_are = ap (rows_meant meaning) are.rows_are ∙ tells.rows;
+        last_is = are.last_is ∙ tells.last;
       }
 
 -- the states stay idle

@@ -186,6 +186,9 @@ module _ {S M : Type 0} (m : Formatter M) (meaning : S → M) (files : Files) (c
       abbrev part : IsFormattedPart front at.meeting number
       part = formatted-part at
 
+      pub met-never : its_meeting ≡ None → ⊥
+      met-never none = let no : Some at.meeting ≡ None = sym at.some ∙ none in cc
+
       pub met-few : length front.rows.items ≤ limits.pages - kept
       met-few = let size = part.size in let few = part.few in omega arith
 

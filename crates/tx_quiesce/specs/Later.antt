@@ -33,6 +33,11 @@ pub record IsLater {S M : Type 0} (meaning : S → M) (changes : List Change) (o
   pub more_is : IsFurther meaning changes old.last more later.further
   pub whole_is : whole ≡ behind formatted (behind (take later.count (map (carried_page changes) (drop later.from h.pages))) more)
 
+-- no page comes further: what was formatted went on to the run's end
+abbrev pub HasNoPage : {S : Type 0} → Further S → Type 0
+HasNoPage (Goes rows) = (rows.pages.items ≡ []) × (rows.pieces.items ≡ []) × (rows.rows.items ≡ [])
+HasNoPage (Stands end) = ⊥
+
 -- the old last stretch, where it is reused, stands behind the changes
 abbrev pub CanCarryFurther : {S : Type 0} → List Change → Last → Further S → Type 0
 CanCarryFurther changes last (Goes rows) = Unit {0}

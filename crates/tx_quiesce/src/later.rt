@@ -1,5 +1,5 @@
 //! What comes behind the rows that changes leave.
-ghost use Rattle.std.specs.Prelude.{◌≡◌, ◌≤◌, ◌-◌, [], length, IfSome, IfOk, OnOk};
+ghost use Rattle.std.specs.Prelude.{◌≡◌, ◌≤◌, ◌-◌, [], length, None, IfSome, IfOk, OnOk};
 ghost use Rattle.tx_machine.specs.Ranges.{IsDate};
 ghost use Rattle.tx_machine.specs.Steps.{raised};
 ghost use Rattle.tx_checkpoint.specs.Meant.{AreIdle, AreRows, rows_meant};
@@ -7,7 +7,7 @@ ghost use Rattle.tx_checkpoint.specs.Resume.{run_behind};
 ghost use Rattle.tx_checkpoint.specs.Rows.{History};
 ghost use Rattle.tx_quiesce.specs.Front.{Reaches, turns_to};
 ghost use Rattle.tx_quiesce.specs.Further.{CanReuse};
-ghost use Rattle.tx_quiesce.specs.Later.{IsLater, LaterIsIdle, FitsBehind, turns_behind};
+ghost use Rattle.tx_quiesce.specs.Later.{IsLater, HasNoPage, LaterIsIdle, FitsBehind, turns_behind};
 ghost use Rattle.tx_quiesce.specs.Reuse.{meeting_behind, made_behind, reused_rows};
 
 use crate::front::{Front, Stopped, format_until_met};
@@ -127,6 +127,7 @@ pub fn format_later<M: Machine>(
     requires can { IfSome (meeting_behind M.formatter files.now changes.now (rows_meant M.meaning old.now.rows.items) old.now.last kept main.now date.now limits.now) (λ meeting. CanReuse changes.now meeting.old old.now.rows.items old.now.last) }
     ensures later { IfOk result (λ later. (h : History M.Meaning) → AreRows M.meaning old.now h → IsLater M.meaning changes.now old.now h later (made_behind M.formatter files.now changes.now main.now date.now limits.now kept h)) }
     ensures count { IfOk result (λ later. later.count ≡ reused_rows limits.now.pages (length old.now.rows.items) kept (meeting_behind M.formatter files.now changes.now (rows_meant M.meaning old.now.rows.items) old.now.last kept main.now date.now limits.now)) }
+    ensures alone { IfOk result (λ later. meeting_behind M.formatter files.now changes.now (rows_meant M.meaning old.now.rows.items) old.now.last kept main.now date.now limits.now ≡ None → HasNoPage later.further) }
     ensures fits { IfOk result (FitsBehind changes.now kept old.now) }
     ensures idle { IfOk result (LaterIsIdle M.formatter M.meaning M.pending) }
     ensures counted { OnOk result ((h : History M.Meaning) → AreRows M.meaning old.now h → steps.new ≡ raised steps.old (turns_behind M.formatter files.now changes.now main.now date.now limits.now kept h)) }

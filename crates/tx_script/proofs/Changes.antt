@@ -1,7 +1,7 @@
 -- Reading an edit, a change, and so many changes.
-use Rattle.std.proofs.Common.{◌≡◌, ℕ, zero, suc, ◌≤◌, Bool, true, false, cond, List, [], ◌∷◌, ◌++◌, length, get_or, refl, sym, ap, subst, ◌∙◌, arith, ◌⊎◌, inl, inr}
-use Rattle.std.specs.Prelude.{Result, Ok, Err, IsTrue, codes, replicate}
-use Rattle.std.specs.List.{flat_map, AllByRecursion}
+use Rattle.std.proofs.Common.{◌≡◌, ℕ, ◌≤◌, Bool, true, false, cond, List, [], ◌∷◌, ◌++◌, length, get_or, refl, sym, subst, arith, ◌⊎◌, inl, inr}
+use Rattle.std.specs.Prelude.{Ok, IsTrue, codes, replicate}
+use Rattle.std.specs.List.{flat_map}
 use Rattle.std.proofs.lemmas.List.{length-replicate}
 use Rattle.tx_files.specs.Names.{is_name}
 use Rattle.tx_files.specs.declared.edit.Edit.{Edit as FileEdit}
@@ -9,12 +9,12 @@ use Rattle.tx_files.specs.declared.edit.Change.{Change}
 use Rattle.tx_files.specs.declared.edit.Change.TheVariants.{Edit, Remove}
 use Rattle.tx_script.specs.declared.element.ChangeWord.{ChangeWord}
 use Rattle.tx_script.specs.declared.element.ChangeWord.TheVariants as changing
-use Rattle.tx_script.specs.declared.error.Broken.{Broken}
 use Rattle.tx_script.specs.declared.error.Rule.{Rule}
 use Rattle.tx_script.specs.declared.error.Rule.TheVariants.{Word, Put, LineFeed}
-use Rattle.tx_script.specs.Text.{bytes_of, edit_elements, change_elements, greatest, number, named, IsEdit, IsChange}
-use Rattle.tx_script.specs.Reading.{Read, ◌>>=◌, after_change_word, begins_with, change_at, change_word_at, changes_at, edit_at, literal_at, name_at, number_at, put_at}
-use Rattle.tx_script.proofs.Forms.{Reads, after, mapped, renamed, ok_is, ok_or_err}
+use Rattle.tx_script.specs.Text.{edit_elements, change_elements, greatest, number, named, IsEdit, IsChange}
+use Rattle.tx_script.specs.Reading.{◌>>=◌, after_change_word, begins_with, change_at, change_word_at, changes_at, edit_at, literal_at, name_at, number_at, put_at}
+use Rattle.tx_script.proofs.Forms.{Reads, after, mapped, renamed}
+use Rattle.tx_script.proofs.Repeats.{AllSo, repeated}
 use Rattle.tx_script.proofs.Literals.{literal_reads}
 use Rattle.tx_script.proofs.Digits.{number_reads}
 use Rattle.tx_script.proofs.Names.{name_reads, put_reads}
@@ -110,7 +110,7 @@ edit_reads bytes =
     bytes
 
 -- a change's word and a space
-abbrev word_text : ChangeWord → List ℕ
+abbrev pub word_text : ChangeWord → List ℕ
 word_text changing.Edit = codes "edit "
 word_text changing.Remove = codes "remove "
 
@@ -118,7 +118,7 @@ first_letter : (v : ChangeWord) (rest : List ℕ) → get_or (word_text v ++ res
 first_letter changing.Edit rest = refl
 first_letter changing.Remove rest = refl
 
-change_word_reads : (bytes : List ℕ) → Reads (λ v. Unit {0}) (λ v. (Word, word_text v) ∷ []) bytes (change_word_at bytes)
+pub change_word_reads : (bytes : List ℕ) → Reads (λ v. Unit {0}) (λ v. (Word, word_text v) ∷ []) bytes (change_word_at bytes)
 unfolding change_word_at
 change_word_reads bytes = by (begins_with 114 bytes) refl
   where
@@ -184,82 +184,10 @@ change_reads bytes =
     (λ w rest one. after_word_reads w rest)
     bytes)
 
--- one step of reading and then others
-bind_assoc : {A B C : Type 0} (r : Result A Broken) (f : A → Result B Broken) (g : B → Result C Broken) → (r >>= f) >>= g ≡ r >>= (λ x. f x >>= g)
-bind_assoc (Ok x) f g = refl
-bind_assoc (Err e) f g = refl
-
 -- so many changes
 abbrev pub AreSo : ℕ → List Change → Type 0
-AreSo n changes = AllByRecursion IsChange changes × (length changes ≡ n)
-
--- a first one and others
-record OneAnd (n : ℕ) (both : Change × List Change) : Type 0 where
-  one : IsChange both.0
-  others : AreSo n both.1
-
-record Behind (n : ℕ) (c : Change) (both : Change × List Change) : Type 0 where
-  first : both.0 ≡ c
-  others : AreSo n both.1
-
-parted : (n : ℕ) (changes : List Change) → AreSo (suc n) changes → (both : Change × List Change) × OneAnd n both × (changes ≡ both.0 ∷ both.1)
-parted n [] h = absurd (omega (arith, h.1))
-parted n (c ∷ changes) h = ((c, changes), record { one = h.0.0; others = (h.0.1, omega (arith, h.1)) }, refl)
-
-abbrev with_first : Change → List Change × List ℕ → Read (Change × List Change)
-with_first c changes = Ok ((c, changes.0), changes.1)
-
-abbrev one_and : ℕ → List ℕ → Read (Change × List Change)
-one_and n bytes = change_at bytes >>= λ c. changes_at n c.1 >>= with_first c.0
-
--- and as a list
-abbrev as_list : (Change × List Change) × List ℕ → Read (List Change)
-as_list x = Ok (x.0.0 ∷ x.0.1, x.1)
-
-abbrev several : ℕ → List ℕ → Read (List Change)
-several n bytes = change_at bytes >>= λ c. changes_at n c.1 >>= λ changes. Ok (c.0 ∷ changes.0, changes.1)
-
-joined : (n : ℕ) (bytes : List ℕ) → (one_and n bytes >>= as_list) ≡ several n bytes
-joined n bytes =
-    bind_assoc (change_at bytes) (λ c. changes_at n c.1 >>= with_first c.0) as_list
-    ∙ (λ i. change_at bytes >>= λ c. bind_assoc (changes_at n c.1) (with_first c.0) as_list i)
-
--- as many of one change
-many : (n : ℕ) (c : Change) → IsChange c → (changes : List Change) × AreSo n changes
-many zero c h = ([], (tt, refl))
-many (suc n) c h = let k = many n c h in (c ∷ k.0, ((h, k.1.0), ap suc k.1.1))
-
-none_is : (changes : List Change) → length changes ≡ 0 → changes ≡ []
-none_is [] e = refl
-none_is (c ∷ changes) e = absurd (omega arith)
+AreSo n changes = AllSo IsChange n changes
 
 pub changes_reads : (n : ℕ) (bytes : List ℕ) → Reads (AreSo n) (λ changes. flat_map change_elements changes) bytes (changes_at n bytes)
 unfolding changes_at
-changes_reads zero bytes = record {
-  takes = λ v rest e.
-      let same = ok_is {A = List Change × List ℕ} ([], bytes) (v, rest) e in
-      subst (λ (z : List Change × List ℕ). AreSo 0 z.0 × (bytes ≡ bytes_of (flat_map change_elements z.0) ++ z.1)) same ((tt, refl), refl);
-  again = λ v rest fits e.
-      let none : v ≡ [] = none_is v fits.1 in
-      λ i. Ok (sym none i, (e ∙ ap (λ (z : List Change). bytes_of (flat_map change_elements z) ++ rest) none) i);
-  breaks = λ b e. absurd (ok_or_err {A = List Change × List ℕ} ([], bytes) b e);
-}
-changes_reads (suc n) bytes =
-    subst (λ (r : Read (List Change)). Reads (AreSo (suc n)) (λ changes. flat_map change_elements changes) bytes r) (joined n bytes)
-    (mapped (OneAnd n) (λ both. change_elements both.0 ++ flat_map change_elements both.1) (AreSo (suc n)) (λ changes. flat_map change_elements changes) (λ both. both.0 ∷ both.1)
-    (λ both h. ((h.one, h.others.0), ap suc h.others.1))
-    (λ changes h. parted n changes h)
-    (λ both. refl)
-    bytes (one_and n bytes)
-    (after IsChange change_elements (Behind n) (λ both. flat_map change_elements both.1) (OneAnd n) (λ both. both.0)
-    (λ both h. (h.one, record { first = refl; others = h.others }))
-    (λ c both hc h. (record { one = subst IsChange (sym h.first) hc; others = h.others }, h.first))
-    (λ c hc. let k = many n c hc in ((c, k.0), record { first = refl; others = k.1 }))
-    change_at change_reads
-    (λ c. changes_at n c.1 >>= λ changes. Ok ((c.0, changes.0), changes.1))
-    (λ c rest hc. mapped (AreSo n) (λ changes. flat_map change_elements changes) (Behind n c) (λ both. flat_map change_elements both.1) (λ changes. (c, changes))
-    (λ changes h. record { first = refl; others = h })
-    (λ both h. (both.1, h.others, λ i. (h.first i, both.1)))
-    (λ changes. refl)
-    rest (changes_at n rest) (changes_reads n rest))
-    bytes))
+changes_reads n bytes = repeated IsChange change_elements change_at changes_at (λ bytes. refl) (λ n bytes. refl) change_reads n bytes

@@ -23,7 +23,7 @@ use Rattle.tx_script.proofs.Names.{name_reads}
 use Rattle.tx_script.proofs.Words.{begins, begins-not, one_word}
 
 -- a command's word and a space
-abbrev word_text : CommandWord → List ℕ
+abbrev pub word_text : CommandWord → List ℕ
 word_text words.Edit = codes "edit "
 word_text words.Remove = codes "remove "
 word_text words.Batch = codes "batch "
@@ -37,7 +37,7 @@ first_letter words.Batch rest = refl
 first_letter words.Save rest = refl
 first_letter words.Locate rest = refl
 
-word_reads : (bytes : List ℕ) → Reads (λ v. Unit {0}) (λ v. (Word, word_text v) ∷ []) bytes (word_at bytes)
+pub word_reads : (bytes : List ℕ) → Reads (λ v. Unit {0}) (λ v. (Word, word_text v) ∷ []) bytes (word_at bytes)
 unfolding word_at
 word_reads bytes = by (begins_with 115 bytes) (begins_with 98 bytes) (begins_with 114 bytes) (begins_with 108 bytes) refl refl refl refl
   where
@@ -132,7 +132,7 @@ after_its_place place hp bytes =
     (λ at h. (at.name, h.0.is_named, λ i. place_of (h.1 i) at.name))
     (λ name. refl) bytes (name_at bytes) (name_reads bytes)
 
-place_reads : (bytes : List ℕ) → Reads IsPlace place_elements bytes (file_place_at bytes)
+pub place_reads : (bytes : List ℕ) → Reads IsPlace place_elements bytes (file_place_at bytes)
 unfolding file_place_at
 place_reads bytes =
     after (λ n. n ≤ greatest) (λ n. number n ∷ []) Standing (λ at. named at.name ∷ []) IsPlace (λ at. at.place)

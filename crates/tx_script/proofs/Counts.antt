@@ -22,7 +22,7 @@ is_count_from : (n : ℕ) → IsCount n → is_count n ≡ true
 is_count_from n h = and_from (nat_le 1 n) (nat_le n 100) (le-leb 1 n h.0) (le-leb n 100 h.1)
 
 -- digits that begin those of a number are those of one that isn't greater, and isn't 0 where that isn't
-front_least : (v x : ℕ) (more : List ℕ) → v ≤ greatest → x ≤ greatest → decimal v ≡ decimal x ++ more → x ≤ v
+pub front_least : (v x : ℕ) (more : List ℕ) → v ≤ greatest → x ≤ greatest → decimal v ≡ decimal x ++ more → x ≤ v
 front_least v x [] hv hx e =
     let same : v ≡ x = decimal_injective v x (omega arith) (omega arith) (e ∙ append-nil (decimal x)) in
     omega arith

@@ -150,15 +150,16 @@ gone s c v more good e fits eq = by (with_byte s c) refl e
     by None is e = let digit = among v fits (shown s) c more eq in ends s good eq digit (stuck s c is digit)
     by (Some x) is e = none_or_some (Some x) e
 
-follows : Follows 32 whole_number further_number (λ n. n ≤ greatest) decimal Good shown
+-- up to a last byte that is no digit
+pub follows : (last : ℕ) → last < 48 → Follows last whole_number further_number (λ n. n ≤ greatest) decimal Good shown
 unfolding Good shown
-follows = record {
+follows last low = record {
   gives = gives_;
   given = given_;
   goes = goes;
   gone = gone;
   ahead = ahead_;
-  apart = λ v front more fits e. let digit = among v fits front 32 more e in omega (arith, digit.0);
+  apart = λ v front more fits e. let digit = among v fits front last more e in omega (arith, digit.0);
 }
   where
     gives_ : (s : Option ℕ) (v : ℕ) → Good s → s ≡ Some v → (v ≤ greatest) × (decimal v ≡ shown s)
@@ -175,4 +176,4 @@ follows = record {
 
 pub number_reads : (bytes : List ℕ) → Reads (λ n. n ≤ greatest) (λ n. number n ∷ []) bytes (number_at bytes)
 unfolding number_at Good shown
-number_reads bytes = scan_reads Number 32 whole_number further_number (λ n. n ≤ greatest) decimal Good shown follows None tt refl bytes
+number_reads bytes = scan_reads Number 32 whole_number further_number (λ n. n ≤ greatest) decimal Good shown (follows 32 (omega arith)) None tt refl bytes

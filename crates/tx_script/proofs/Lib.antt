@@ -1,12 +1,13 @@
-mod Parts
-mod Forms
-mod Literals
-mod Scans
-mod Digits
-mod Counts
-mod Names
-mod Words
-mod Changes
-mod Commands
+pub mod Parts
+pub mod Forms
+pub mod Repeats
+pub mod Literals
+pub mod Scans
+pub mod Digits
+pub mod Counts
+pub mod Names
+pub mod Words
+pub mod Changes
+pub mod Commands
 mod Batches
 mod Scripts

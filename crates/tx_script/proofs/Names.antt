@@ -20,7 +20,7 @@ none_or_some x e = cc
 Good : List ℕ → Type 0
 Good front = (list_all is_visible front ≡ true) × (length front ≤ 255)
 
-name_is : (name : List ℕ) → is_name name ≡ true → (0 < length name) × (length name ≤ 255) × (list_all is_visible name ≡ true)
+pub name_is : (name : List ℕ) → is_name name ≡ true → (0 < length name) × (length name ≤ 255) × (list_all is_visible name ≡ true)
 name_is name e =
     let both = and_parts (nat_le 1 (length name) && nat_le (length name) 255) (list_all is_visible name) e in
     let bounds = and_parts (nat_le 1 (length name)) (nat_le (length name) 255) both.0 in
@@ -81,6 +81,10 @@ follows = record {
     ahead_ : (s : List ℕ) → Good s → (v : List ℕ) × (more : List ℕ) × IsTrue (is_name v) × (v ≡ s ++ more)
     ahead_ [] good = (97 ∷ [], 97 ∷ [], refl, refl)
     ahead_ (x ∷ s) good = (x ∷ s, [], is_name_from (x ∷ s) (omega arith) good.1 good.0, sym (append-nil (x ∷ s)))
+
+-- no LF stands in a name
+pub unbroken : (name front more : List ℕ) → IsTrue (is_name name) → name ≡ front ++ 10 ∷ more → ⊥
+unbroken name front more fits e = follows.apart name front more fits e
 
 pub name_reads : (bytes : List ℕ) → Reads (λ name. IsTrue (is_name name)) (λ name. named name ∷ []) bytes (name_at bytes)
 unfolding name_at Good

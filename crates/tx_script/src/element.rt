@@ -11,7 +11,7 @@ use tx_files::Name;
 
 /// The word that begins a command.
 #[derive(Clone, Copy)]
-pub(crate) enum CommandWord {
+pub enum CommandWord {
     Edit,
     Remove,
     Batch,
@@ -21,7 +21,7 @@ pub(crate) enum CommandWord {
 
 /// The word that begins a command of a batch.
 #[derive(Clone, Copy)]
-pub(crate) enum ChangeWord {
+pub enum ChangeWord {
     Edit,
     Remove,
 }
@@ -33,7 +33,7 @@ const GREATEST: u64 = 4_294_967_295;
 const MOST_CHANGES: u64 = 100;
 
 /// The bytes after a text that has to stand there.
-fn literal<'a>(bytes: &'a [u8], text: &[u8], rule: Rule) -> Result<&'a [u8], Fault>
+pub fn literal<'a>(bytes: &'a [u8], text: &[u8], rule: Rule) -> Result<&'a [u8], Fault>
     ensures { Gives (λ rest. rest.now) result (literal_at rule text.now bytes.now) }
 {
     let mut rest = bytes;
@@ -52,7 +52,7 @@ fn literal<'a>(bytes: &'a [u8], text: &[u8], rule: Rule) -> Result<&'a [u8], Fau
 }
 
 /// Reading ends before these bytes.
-fn stop(rest: &[u8], rule: Rule) -> Fault
+pub fn stop(rest: &[u8], rule: Rule) -> Fault
     ensures { result ≡ Fault.Broken (record { left = length rest.now; rule = rule }) }
 {
     Fault::Broken(Broken {
@@ -63,7 +63,7 @@ fn stop(rest: &[u8], rule: Rule) -> Fault
 
 /// The word that begins a command, and a space.
 #[tactic(auto, unfolding(crate::specs::Reading::word_at))]
-pub(crate) fn word(bytes: &[u8]) -> Result<(CommandWord, &[u8]), Fault>
+pub fn word(bytes: &[u8]) -> Result<(CommandWord, &[u8]), Fault>
     ensures { Gives (λ x. (x.0, x.1.now)) result (word_at bytes.now) }
 {
     match bytes {
@@ -77,7 +77,7 @@ pub(crate) fn word(bytes: &[u8]) -> Result<(CommandWord, &[u8]), Fault>
 
 /// The word that begins a command of a batch, and a space.
 #[tactic(auto, unfolding(crate::specs::Reading::change_word_at))]
-pub(crate) fn change_word(bytes: &[u8]) -> Result<(ChangeWord, &[u8]), Fault>
+pub fn change_word(bytes: &[u8]) -> Result<(ChangeWord, &[u8]), Fault>
     ensures { Gives (λ x. (x.0, x.1.now)) result (change_word_at bytes.now) }
 {
     match bytes {
@@ -87,7 +87,7 @@ pub(crate) fn change_word(bytes: &[u8]) -> Result<(ChangeWord, &[u8]), Fault>
 }
 
 /// A number of which one more byte has been read; None where no number goes on so.
-fn with_byte(number: Option<u64>, byte: u8) -> Option<u64>
+pub fn with_byte(number: Option<u64>, byte: u8) -> Option<u64>
     ensures { result ≡ with_byte number byte }
 {
     if !byte.is_ascii_digit() {
@@ -102,7 +102,7 @@ fn with_byte(number: Option<u64>, byte: u8) -> Option<u64>
 }
 
 /// A number and a space.
-pub(crate) fn number(bytes: &[u8]) -> Result<(u64, &[u8]), Fault>
+pub fn number(bytes: &[u8]) -> Result<(u64, &[u8]), Fault>
     ensures { Gives (λ x. (x.0, x.1.now)) result (number_at bytes.now) }
 {
     let mut known = None;
@@ -139,7 +139,7 @@ fn with_count(number: Option<u64>, byte: u8) -> Option<u64>
 }
 
 /// How many changes a batch has, and LF.
-pub(crate) fn count(bytes: &[u8]) -> Result<(u64, &[u8]), Fault>
+pub fn count(bytes: &[u8]) -> Result<(u64, &[u8]), Fault>
     ensures { Gives (λ x. (x.0, x.1.now)) result (count_at bytes.now) }
 {
     let mut known = None;
@@ -159,7 +159,7 @@ pub(crate) fn count(bytes: &[u8]) -> Result<(u64, &[u8]), Fault>
 }
 
 /// A name and LF.
-pub(crate) fn name(alloc: Global, bytes: &[u8]) -> Result<(Name, &[u8]), Fault>
+pub fn name(alloc: Global, bytes: &[u8]) -> Result<(Name, &[u8]), Fault>
     ensures { Gives (λ x. (x.0, x.1.now)) result (name_at bytes.now) }
 {
     for (at, byte) in bytes.iter().enumerate() {

@@ -7,7 +7,7 @@ ghost use Rattle.tx_script.specs.declared.error.ScriptError.TheVariants as error
 use std::alloc::AllocError;
 use thiserror::Error;
 
-/// What the bytes of a script's text belong to.
+/// What the bytes of a script's text, or of a request's, belong to.
 #[derive(Clone, Copy, Debug)]
 pub enum Rule {
     /// The script's file, which is absent: for callers, since `read_script` is given the bytes.
@@ -24,10 +24,12 @@ pub enum Rule {
     LineFeed,
     /// How many changes a batch has, and the LF after it.
     Count,
+    /// The number of a page, and the LF after it: for requests, since no script asks for a page.
+    Page,
 }
 
 impl Rule {
-    /// The number by which a refusal names the rule: 1 to 7, in their order.
+    /// The number by which a refusal names the rule: 1 to 8, in their order.
     pub fn number(self) -> u8
         ensures { result ≡ number_of self }
     {
@@ -39,6 +41,7 @@ impl Rule {
             Rule::Put => 5,
             Rule::LineFeed => 6,
             Rule::Count => 7,
+            Rule::Page => 8,
         }
     }
 }
@@ -65,14 +68,14 @@ impl From<AllocError> for ScriptError {
 
 /// Where reading ended: before the last `left` bytes, at an element of this rule.
 #[derive(Clone, Copy)]
-pub(crate) struct Broken {
+pub struct Broken {
     pub left: usize,
     pub rule: Rule,
 }
 
 /// Why an element or a command was not read.
 #[derive(Clone, Copy)]
-pub(crate) enum Fault {
+pub enum Fault {
     Broken(Broken),
     OutOfMemory,
 }

@@ -9,10 +9,10 @@
 #![tactic(auto)]
 
 pub mod command;
-mod element;
+pub mod element;
 pub mod error;
 mod read;
 
 pub use command::{Command, FilePlace, Script};
-pub use error::{Rule, ScriptError};
+pub use error::{Broken, Fault, Rule, ScriptError};
 pub use read::read_script;

@@ -63,6 +63,9 @@ module _ {S M : Type 0} {m : Formatter M} {meaning : S → M} {pending : S → L
   pub shown-pages : made.rows.pages.items ≡ (fresh m held).ran.pages
   shown-pages = shows.rows.pages_are ∙ sym (ap (λ c. c.ran.pages) (fresh-tells m held))
 
+  pub shown-pieces : made.rows.pieces.items ≡ (fresh m held).ran.pieces
+  shown-pieces = shows.rows.pieces_are ∙ sym (ap (λ c. c.ran.pieces) (fresh-tells m held))
+
   pub shown-end : made.rows.last.end ≡ (fresh m held).ran.end
   shown-end = ap (λ last. last.end) shows.rows.last_is ∙ sym (ap (λ c. c.ran.end) (fresh-tells m held))
 
@@ -101,10 +104,10 @@ module _ {S M : Type 0} {m : Formatter M} {meaning : S → M} {pending : S → L
     kept-small = let fewer : kept ≤ held.limits.pages = kept-fewer in omega (arith, shows.limited.pages.1)
 
     module _ {files : Files} (fits : all_fit held.files changes ≡ true) (changed : files ≡ all_changed held.files changes) where
-      abbrev old : History M
+      abbrev pub old : History M
       old = rows_of m held
 
-      abbrev edited_run : History M
+      abbrev pub edited_run : History M
       edited_run = rows_of m (changed_session held changes)
 
       -- everything stands
@@ -139,14 +142,14 @@ module _ {S M : Type 0} {m : Formatter M} {meaning : S → M} {pending : S → L
       abbrev rest : History M
       rest = run_behind m files (rows_in old.pages) kept held.main held.date held.limits
 
-      abbrev its_meeting : Option Meeting
+      abbrev pub its_meeting : Option Meeting
       its_meeting = meeting_behind m files changes (rows_in old.pages) old.last kept held.main held.date held.limits
 
       -- as the rows in code tell it
-      abbrev meeting_told : Option Meeting
+      abbrev pub meeting_told : Option Meeting
       meeting_told = meeting_behind m files changes (rows_meant meaning made.rows.rows.items) made.rows.last kept held.main held.date held.limits
 
-      told_is : meeting_told ≡ its_meeting
+      pub told_is : meeting_told ≡ its_meeting
       told_is = λ i. meeting_behind m files changes (shows.rows.rows_are i) (shows.rows.last_is i) kept held.main held.date held.limits
 
       untouched_rows : AreUntouched (rows_in old.pages) kept changes
@@ -176,7 +179,7 @@ module _ {S M : Type 0} {m : Formatter M} {meaning : S → M} {pending : S → L
       formatted_within None is = tt
       formatted_within (Some meeting) is = subst (λ n. meeting.formatted ≤ n) (length-map rest.pages (λ page. page.row)) (first-within m changes old.last (rows_in old.pages) kept (rows_in rest.pages) meeting is)
 
-      abbrev many : ℕ
+      abbrev pub many : ℕ
       many = reused_rows held.limits.pages (length old.pages) kept its_meeting
 
       pub reused-told : reused_rows held.limits.pages (length made.rows.rows.items) kept meeting_told ≡ many
@@ -187,7 +190,7 @@ module _ {S M : Type 0} {m : Formatter M} {meaning : S → M} {pending : S → L
         rest_is = subst (λ now. run_behind m now (rows_in old.pages) kept held.main held.date held.limits ≡ reused_by m now changes (start_of m held.main held.date) held.limits.budget (held.limits.pages - kept) old (run_behind m now (rows_in old.pages) kept held.main held.date held.limits) (meeting_behind m now changes (rows_in old.pages) old.last kept held.main held.date held.limits))
             (sym changed) (tail_is m lawful held.files changes held.main held.date held.limits fits kept (meeting_behind m (all_changed held.files changes) changes (rows_in old.pages) old.last kept held.main held.date held.limits) refl)
 
-        remade : rows_of m (with_files held files) ≡ made_after m files changes held.main held.date held.limits kept old
+        pub remade : rows_of m (with_files held files) ≡ made_after m files changes held.main held.date held.limits kept old
         remade = resumes ∙ ap (behind (take kept old.pages)) rest_is
 
         pub shows-on : (new : Made S) → Becomes meaning made.rows (made_after m files changes held.main held.date held.limits kept) new.rows → AreIdle m meaning pending new.rows.rows.items → IsSaid new → Shows m meaning pending (with_files held files) new
@@ -210,11 +213,14 @@ module _ {S M : Type 0} {m : Formatter M} {meaning : S → M} {pending : S → L
             subst (λ n. kept + many ≤ n) (sym (ap length shown.rows.pages_are ∙ length-map (rows_of m (with_files held files)).pages (λ page. page.body) ∙ ap (λ h. length h.pages) resumes))
             (reused-few m files changes (start_of m held.main held.date) held.limits.budget held.limits.pages kept old rest (take kept old.pages) kept_length its_meeting rest_is (formatted_within its_meeting refl))
 
+      pub report-told : all_stay made.rows.rows.items made.rows.last changes ≡ false → (pages : ℕ) → pages ≡ length edited_run.pages → report_of pages kept many ≡ report m held changes
+      report-told stay pages is =
+          (λ i. report_of (is i) (kept_is i) (reused_rows held.limits.pages (length old.pages) (kept_is i) (sym meeting_is i)))
+          ∙ sym (ap (λ b. cond b (report_of (length edited_run.pages) (length edited_run.pages) 0) (report_of (length edited_run.pages) (resumed_at old changes) (reused_rows held.limits.pages (length old.pages) (resumed_at old changes) (meeting_of m changes old edited_run)))) (not_standing stay))
+
       pub report-on : all_stay made.rows.rows.items made.rows.last changes ≡ false → (new : Made S) → Shows m meaning pending (with_files held files) new
           → report_of (length new.rows.pages.items) kept many ≡ report m held changes
-      report-on stay new shown =
-          (λ i. report_of (pages_after new shown i) (kept_is i) (reused_rows held.limits.pages (length old.pages) (kept_is i) (sym meeting_is i)))
-          ∙ sym (ap (λ b. cond b (report_of (length edited_run.pages) (length edited_run.pages) 0) (report_of (length edited_run.pages) (resumed_at old changes) (reused_rows held.limits.pages (length old.pages) (resumed_at old changes) (meeting_of m changes old edited_run)))) (not_standing stay))
+      report-on stay new shown = report-told stay (length new.rows.pages.items) (pages_after new shown)
 
       -- what is reused can be
       pub can-be : AreSmall held.files changes → IfSome meeting_told (λ meeting. CanReuse changes meeting.old made.rows.rows.items made.rows.last)

@@ -21,6 +21,10 @@ pub record Held : Type 0 where
   pub date : Date
   pub limits : Limits
 
+-- these files, this main file's name, this date and these limits
+abbrev pub held_of : Files → List ℕ → Date → Limits → Held
+held_of files main date limits = record { files = files; main = main; date = date; limits = limits }
+
 -- the fresh run on the files as they are now
 abbrev pub fresh : {S : Type 0} → Formatter S → Held → Counted
 fresh m held = run m held.files held.main held.date held.limits

@@ -5,3 +5,7 @@ pub mod Report
 pub mod Made
 pub mod Shows
 pub mod Locating
+pub mod Standing
+pub mod StandingCode
+pub mod Pages
+pub mod Cut

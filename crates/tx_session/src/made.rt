@@ -1,17 +1,17 @@
 //! How a run is made anew, or made of what changes leave of it, with its transcript as one text.
-ghost use Rattle.std.specs.Prelude.{◌≡◌, ◌≤◌, ◌+◌, ◌++◌, length, IfSome, IfOk, OnOk, OnErr};
+ghost use Rattle.std.specs.Prelude.{◌≡◌, ◌≤◌, ◌+◌, ◌++◌, length, None, IfSome, IfOk, OnOk, OnErr};
 ghost use Rattle.tx_machine.specs.Ranges.{IsDate};
 ghost use Rattle.tx_machine.specs.Steps.{raised};
 ghost use Rattle.tx_checkpoint.specs.Meant.{AreRows, AreIdle, AreSame, rows_meant};
 ghost use Rattle.tx_checkpoint.specs.Rows as rows;
 ghost use Rattle.tx_checkpoint.specs.Rows.{History, all_turns};
 ghost use Rattle.tx_quiesce.specs.Further.{CanReuse};
-ghost use Rattle.tx_quiesce.specs.Later.{AreOfOneLength, pieces_of, turns_behind};
-ghost use Rattle.tx_quiesce.specs.Reuse.{meeting_behind, made_after, reused_rows};
+ghost use Rattle.tx_quiesce.specs.Later.{AreOfOneLength, AreReused, FitsBehind, HasNoPage, IsLater, LaterIsIdle, pieces_of, turns_behind};
+ghost use Rattle.tx_quiesce.specs.Reuse.{meeting_behind, made_after, made_behind, reused_rows};
 ghost use Rattle.tx_session.specs.Held.{joined_with};
 ghost use Rattle.tx_session.specs.Made.{Joins, Becomes, IsSaid, pieces_after, last_piece};
 
-use crate::kept::Made;
+use crate::kept::{Beside, Made};
 use std::alloc::{AllocError, Global};
 use tx_bytes::Bytes;
 use tx_checkpoint::{Rows, fresh_rows};
@@ -100,6 +100,75 @@ fn transcript_after<S>(
     Ok(said)
 }
 
+/// Formats what changes make of a run behind its first pages, so many, on these files, which are the changed ones, until a new row
+/// meets an old one, and leaves the run as it is. Its only error is want of memory.
+pub fn make_beside<M: Machine>(
+    alloc: Global,
+    machine: &M,
+    files: &FileSet,
+    changes: &[Change],
+    made: &Made<M::State>,
+    kept: u32,
+    main: &Name,
+    date: &Date,
+    limits: &Limits,
+    steps: &mut Steps,
+) -> Result<Beside<M::State>, AllocError>
+    requires dated { IsDate date.now }
+    requires lengths { AreOfOneLength made.now.rows }
+    requires within { kept ≤ length made.now.rows.rows.items }
+    requires fewer { kept ≤ limits.now.pages }
+    requires idle { AreIdle M.formatter M.meaning M.pending made.now.rows.rows.items }
+    requires can { IfSome (meeting_behind M.formatter files.now changes.now (rows_meant M.meaning made.now.rows.rows.items) made.now.rows.last kept main.now date.now limits.now) (λ meeting. CanReuse changes.now meeting.old made.now.rows.rows.items made.now.rows.last) }
+    ensures later { IfOk result (λ beside. (h : History M.Meaning) → AreRows M.meaning made.now.rows h → IsLater M.meaning changes.now made.now.rows h beside.later (made_behind M.formatter files.now changes.now main.now date.now limits.now kept h)) }
+    ensures count { IfOk result (λ beside. beside.later.count ≡ reused_rows limits.now.pages (length made.now.rows.rows.items) kept (meeting_behind M.formatter files.now changes.now (rows_meant M.meaning made.now.rows.rows.items) made.now.rows.last kept main.now date.now limits.now)) }
+    ensures alone { IfOk result (λ beside. meeting_behind M.formatter files.now changes.now (rows_meant M.meaning made.now.rows.rows.items) made.now.rows.last kept main.now date.now limits.now ≡ None → HasNoPage beside.later.further) }
+    ensures fits { IfOk result (λ beside. FitsBehind changes.now kept made.now.rows beside.later) }
+    ensures idle { IfOk result (λ beside. LaterIsIdle M.formatter M.meaning M.pending beside.later) }
+    ensures said { IfOk result (λ beside. beside.said ≡ joined_with (pieces_after made.now.rows kept beside.later) (last_piece made.now.rows.last.piece beside.later.further)) }
+    ensures counted { OnOk result ((h : History M.Meaning) → AreRows M.meaning made.now.rows h → steps.new ≡ raised steps.old (turns_behind M.formatter files.now changes.now main.now date.now limits.now kept h)) }
+
+    // Also where memory was wanting.
+    ensures bound { (h : History M.Meaning) → AreRows M.meaning made.now.rows h → steps.new ≤ raised steps.old (turns_behind M.formatter files.now changes.now main.now date.now limits.now kept h) }
+{
+    let later = format_later(
+        alloc, machine, files, changes, &made.rows, kept, main, date, limits, steps,
+    )?;
+    let Ok(said) = transcript_after(alloc, &made.rows, kept as usize, &later) else {
+        drop(later);
+        return Err(AllocError);
+    };
+    Ok(Beside { later, said })
+}
+
+/// Takes over what changes made of a run behind its first pages, so many. After want of memory the run stands as before.
+pub fn take_over<S: Drop>(
+    alloc: Global,
+    made: &mut Made<S>,
+    kept: usize,
+    beside: Beside<S>,
+    changes: &[Change],
+) -> Result<(), AllocError>
+    requires lengths { AreOfOneLength made.old.rows }
+    requires fits { FitsBehind changes.now kept made.old.rows beside.later }
+    ensures rows { OnOk result (AreReused changes.now made.old.rows kept beside.later made.new.rows) }
+    ensures said { OnOk result (made.new.said ≡ beside.said) }
+    ensures same { OnErr result (AreSame made.old.rows made.new.rows) }
+    ensures unsaid { OnErr result (made.new.said ≡ made.old.said) }
+{
+    let Beside { later, said } = beside;
+    match reuse_rows(alloc, &mut made.rows, kept, later, changes) {
+        Ok(()) => {
+            made.said = said;
+            Ok(())
+        }
+        Err(error) => {
+            drop(said);
+            Err(error)
+        }
+    }
+}
+
 /// Makes changes in a run of which the first pages are kept, on these files, which are the changed ones: formats until a new row
 /// meets an old one, and takes the rest over. Answers how many pages were taken over. After want of memory the run stands as
 /// before.
@@ -130,15 +199,10 @@ pub fn make_after<M: Machine>(
     ensures counted { OnOk result ((h : History M.Meaning) → AreRows M.meaning made.old.rows h → steps.new ≡ raised steps.old (turns_behind M.formatter files.now changes.now main.now date.now limits.now kept h)) }
     ensures bound { (h : History M.Meaning) → AreRows M.meaning made.old.rows h → steps.new ≤ raised steps.old (turns_behind M.formatter files.now changes.now main.now date.now limits.now kept h) }
 {
-    let later = format_later(
-        alloc, machine, files, changes, &made.rows, kept, main, date, limits, steps,
+    let beside = make_beside(
+        alloc, machine, files, changes, made, kept, main, date, limits, steps,
     )?;
-    let Ok(said) = transcript_after(alloc, &made.rows, kept as usize, &later) else {
-        drop(later);
-        return Err(AllocError);
-    };
-    let reused = later.count;
-    reuse_rows(alloc, &mut made.rows, kept as usize, later, changes)?;
-    made.said = said;
+    let reused = beside.later.count;
+    take_over(alloc, made, kept as usize, beside, changes)?;
     Ok(reused)
 }

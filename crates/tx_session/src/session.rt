@@ -10,10 +10,12 @@ ghost use Rattle.tx_checkpoint.specs.Locate.{located};
 ghost use Rattle.tx_session.specs.Held.{fresh, rows_of, transcript, body_of, changed_session, edited_session, after, replayed};
 ghost use Rattle.tx_session.specs.Locating.{AllLeaveBy};
 ghost use Rattle.tx_session.specs.Refusals.{IsEditAnswer, IsBatchAnswer, IsOutside};
+ghost use Rattle.tx_session.specs.Standing.{settled};
 ghost use Rattle.tx_session.specs.Report as spec;
 ghost use Rattle.tx_session.specs.Report.{report, work, turns_of_changes, turns_of_edit, turns_of_edits, IsStopped};
 
 use crate::changing::change_files;
+use crate::document::Document;
 use crate::kept::Made;
 use crate::made::{make_after, make_anew};
 use crate::refusal::Refusal;
@@ -28,7 +30,7 @@ use tx_files::{Change, Edit, FileSet, Name};
 use tx_machine::{Date, End, Limits, Machine, Steps};
 
 /// The report of changes, by how many pages there are, after how many formatting resumed, and how many were reused.
-fn report_of(pages: usize, resumed: usize, reused: usize) -> Report
+pub(crate) fn report_of(pages: usize, resumed: usize, reused: usize) -> Report
     requires { resumed + reused ≤ pages }
     ensures { result ≡ spec.report_of pages resumed reused }
 {
@@ -258,5 +260,35 @@ impl<M: Machine> Session<M> {
         ensures { IfOk result (λ file. file ≡ dvi (fresh M.formatter self.now).ran.pages) }
     {
         assemble(self.alloc, self.made.rows.pages.as_slice())
+    }
+}
+
+impl<M: Machine> Document<M> for Session<M> {
+    ghost standing = { λ s. settled s };
+
+    ghost longest = { 0 };
+
+    fn batch(&mut self, changes: &[Change], steps: &mut Steps) -> Result<Report, Refusal> {
+        Session::batch(self, changes, steps)
+    }
+
+    fn locate(&self, name: &Name, place: u64) -> Located {
+        Session::locate(self, name, place)
+    }
+
+    fn pages(&self) -> usize {
+        Session::pages(self)
+    }
+
+    fn end(&self) -> &End {
+        Session::end(self)
+    }
+
+    fn said(&self) -> &[u8] {
+        Session::said(self)
+    }
+
+    fn dvi(&self) -> Result<Bytes, AllocError> {
+        Session::dvi(self)
     }
 }

@@ -13,7 +13,7 @@ use Rattle.clap.specs.declared.error.Error.{Error}
 use Rattle.clap.specs.declared.error.kind.ErrorKind.{ErrorKind}
 use Rattle.clap.specs.declared.error.kind.ErrorKind.TheVariants as kind
 use Rattle.tx_words.specs.declared.given.Asked.{Asked}
-use Rattle.tx_words.specs.CommandLine.{run_line, gen_line, command_line, faults, subcommand}
+use Rattle.tx_words.specs.CommandLine.{run_line, gen_line, list_line, command_line, faults, subcommand}
 use Rattle.tx_words.specs.Words.{asked, asked_instead, subcommand_asked, call_meant}
 use Rattle.tx_words.proofs.ClearFaults.{IsClear, nothing, one, stray, clear_faults}
 
@@ -22,15 +22,15 @@ if_err (Ok x) P err = absurd (let no : false ≡ true = err in cc)
 if_err (Err e) P err = tt
 
 simple : is_simple_and_free command_line ≡ true
-unfolding run_line gen_line command_line
+unfolding run_line gen_line list_line command_line
 simple = refl
 
 one_level : is_simple command_line ≡ true
-unfolding run_line gen_line command_line
+unfolding run_line gen_line list_line command_line
 one_level = refl
 
 no_help_command : (built command_line).top.disable_help_subcommand ≡ true
-unfolding run_line gen_line command_line
+unfolding run_line gen_line list_line command_line
 no_help_command = refl
 
 clear : (words : List (List ℕ)) → IsClear (faults words)

@@ -1,6 +1,6 @@
 -- The command line of `vortex`, as the parser `clap` is told of it:
 -- `vortex run --date Y-M-D-T --out NAME [--script EDITS] [--budget N] [--pages N] [--keep N] FILE..`, `vortex gen SEED PAGES`,
--- `vortex list FILE`, `--help` and `--version`.
+-- `vortex list FILE`, `vortex serve --date Y-M-D-T [--budget N] [--pages N] [--keep N] FILE..`, `--help` and `--version`.
 use Rattle.std.specs.Prelude.{List, ℕ, true, codes, Option, Some}
 use Rattle.clap.specs.Words.{App, Rule, Row, Shape, Kinds, fault_of, new_app, new_rule, subcommand_of, with_rule, with_subcommand}
 use Rattle.clap.specs.Simple.{on_top}
@@ -36,6 +36,10 @@ gen_command = with_rule (with_rule (new_app (codes "gen")) (word_rule (codes "se
 abbrev pub list_command : App
 list_command = with_rule (new_app (codes "list")) (word_rule (codes "file"))
 
+abbrev pub serve_command : App
+serve_command = with_rule (with_rule (with_rule (with_rule (with_rule (new_app (codes "serve"))
+    (required_rule (codes "date"))) (option_rule (codes "budget"))) (option_rule (codes "pages"))) (option_rule (codes "keep"))) files_rule
+
 -- the words don't begin with the program's name, there is a version, and a subcommand must be there, which is not `help`
 abbrev pub with_settings : Shape → Shape
 with_settings top = record top { no_binary_name = true; has_version = true; subcommand_required = true; disable_help_subcommand = true }
@@ -46,8 +50,11 @@ run_line = with_subcommand (on_top with_settings (new_app (codes "vortex"))) run
 unfoldable pub gen_line : App
 gen_line = with_subcommand run_line gen_command.top
 
+unfoldable pub list_line : App
+list_line = with_subcommand gen_line list_command.top
+
 unfoldable pub command_line : App
-command_line = with_subcommand gen_line list_command.top
+command_line = with_subcommand list_line serve_command.top
 
 -- what `clap` finds wrong with the words first: nothing where it takes them
 unfoldable pub faults : List (List ℕ) → Kinds

@@ -9,8 +9,9 @@ use Rattle.tx_machine.specs.Ranges.{IsDate, AreLimits}
 use Rattle.tx_machine.specs.declared.types.Date.{Date}
 use Rattle.tx_machine.specs.declared.types.Limits.{Limits}
 use Rattle.tx_words.specs.declared.given.Given.{Given}
+use Rattle.tx_words.specs.declared.given.Serving.{Serving}
 use Rattle.tx_words.specs.declared.given.Asked.{Asked}
-use Rattle.tx_words.specs.declared.given.Asked.TheVariants.{Run, Gen, Listing, Help, RunHelp, GenHelp, ListHelp, Version, Nothing}
+use Rattle.tx_words.specs.declared.given.Asked.TheVariants.{Run, Serve, Gen, Listing, Help, RunHelp, GenHelp, ListHelp, ServeHelp, Version, Nothing}
 use Rattle.tx_words.specs.CommandLine.{faults, subcommand}
 use Rattle.tx_words.specs.Values.{date_meant, seed_meant, limit_meant, named, are_distinct, all_named}
 
@@ -68,6 +69,18 @@ abbrev pub run_asked : Option Given → Asked
 run_asked None = Nothing
 run_asked (Some given) = Run given
 
+-- what `serve` is given; the first file is the main one
+abbrev pub serving_of : Option Date → Option Limits → Option (List (List ℕ)) → Option Serving
+serving_of (Some date) (Some limits) (Some (main ∷ others)) = Some (record { date = date; limits = limits; main = main; files = main ∷ others })
+serving_of _ _ _ = None
+
+abbrev pub serving_given : List Row → Option Serving
+serving_given rows = serving_of (date_given (first_of (codes "date") rows)) (limits_given rows) (files_given (all_of (codes "file") rows))
+
+abbrev pub serve_asked : Option Serving → Asked
+serve_asked None = Nothing
+serve_asked (Some serving) = Serve serving
+
 -- SEED and PAGES, which must be there
 abbrev pub seed_given : Option (List ℕ) → Option ℕ
 seed_given None = None
@@ -98,8 +111,12 @@ list_asked rows = list_of (name_given (first_of (codes "file") rows))
 abbrev pub IsWithin : Given → Type 0
 IsWithin given = IsDate given.date × AreLimits given.limits × (are_distinct given.files ≡ true)
 
+abbrev pub IsServing : Serving → Type 0
+IsServing serving = IsDate serving.date × AreLimits serving.limits × (are_distinct serving.files ≡ true)
+
 abbrev pub IsAskedWithin : Asked → Type 0
 IsAskedWithin (Run given) = IsWithin given
+IsAskedWithin (Serve serving) = IsServing serving
 IsAskedWithin _ = Unit {0}
 
 -- the file of the script that they name, if they name one
@@ -115,13 +132,17 @@ dvi_asked _ = None
 -- they ask for something that is made of files
 abbrev pub IsOfFiles : Asked → Type 0
 IsOfFiles (Run given) = Unit {0}
+IsOfFiles (Serve serving) = Unit {0}
 IsOfFiles (Listing name) = Unit {0}
 IsOfFiles _ = ⊥
 
--- what a subcommand with its values asks for; there are `run`, `gen` and `list`
+-- what a subcommand with its values asks for; there are `run`, `gen`, `list` and `serve`
 unfoldable pub command_asked : List ℕ → List Row → Asked
 command_asked name rows =
-    if bytes_eq name (codes "gen") then gen_asked rows else if bytes_eq name (codes "list") then list_asked rows else run_asked (run_given rows)
+    if bytes_eq name (codes "gen") then gen_asked rows
+    else if bytes_eq name (codes "list") then list_asked rows
+    else if bytes_eq name (codes "serve") then serve_asked (serving_given rows)
+    else run_asked (run_given rows)
 
 abbrev pub subcommand_asked : Option (List ℕ) → Option (List Row) → Asked
 subcommand_asked (Some name) (Some rows) = command_asked name rows
@@ -132,12 +153,13 @@ abbrev pub begins_with : List ℕ → List (List ℕ) → Bool
 begins_with word [] = false
 begins_with word (first ∷ _) = bytes_eq first word
 
--- where `clap` finds that help is asked for, it is that of `run`, `gen` or `list` behind this word
+-- where `clap` finds that help is asked for, it is that of `run`, `gen`, `list` or `serve` behind this word
 abbrev pub help_shown : List (List ℕ) → Asked
 help_shown words =
     if begins_with (codes "run") words then RunHelp
     else if begins_with (codes "gen") words then GenHelp
     else if begins_with (codes "list") words then ListHelp
+    else if begins_with (codes "serve") words then ServeHelp
     else Help
 
 -- where `clap` doesn't take the words, that may be since they ask for help or for the version
@@ -160,6 +182,7 @@ help_of command =
     if bytes_eq command (codes "run") then RunHelp
     else if bytes_eq command (codes "gen") then GenHelp
     else if bytes_eq command (codes "list") then ListHelp
+    else if bytes_eq command (codes "serve") then ServeHelp
     else if bytes_eq command (codes "help") then Help
     else Nothing
 

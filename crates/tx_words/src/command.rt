@@ -3,7 +3,7 @@ ghost use Rattle.std.specs.Prelude.{◌≡◌, IfOk, codes};
 ghost use Rattle.clap.specs.Simple.{on_top};
 ghost use Rattle.clap.specs.Words.{App, Rule, app_of, new_app, with_rule, with_subcommand};
 ghost use Rattle.tx_words.specs.Told.{IsArg, Makes};
-ghost use Rattle.tx_words.specs.CommandLine.{option_rule, required_rule, files_rule, run_command, word_rule, gen_command, list_command, with_settings, command_line};
+ghost use Rattle.tx_words.specs.CommandLine.{option_rule, required_rule, files_rule, run_command, word_rule, gen_command, list_command, serve_command, with_settings, command_line};
 
 use clap::{Arg, ArgAction, Command};
 use std::alloc::{AllocError, Global};
@@ -80,6 +80,18 @@ fn list_command<'a>(alloc: Global) -> Result<Command<'a>, AllocError>
     with_arg(begun, word(alloc, "file"))
 }
 
+/// The command `serve`.
+fn serve_command<'a>(alloc: Global) -> Result<Command<'a>, AllocError>
+    ensures { Makes serve_command result }
+{
+    let begun = Ok(Command::new(alloc, "serve"));
+    let dated = with_arg(begun, required_option(alloc, "date"));
+    let bounded = with_arg(dated, option(alloc, "budget"));
+    let paged = with_arg(bounded, option(alloc, "pages"));
+    let keeping = with_arg(paged, option(alloc, "keep"));
+    with_arg(keeping, files(alloc))
+}
+
 /// `vortex` without its commands.
 fn without_commands<'a>(alloc: Global) -> Command<'a>
     ensures { app_of result ≡ on_top with_settings (new_app (codes "vortex")) }
@@ -107,5 +119,6 @@ pub fn command_line<'a>(alloc: Global) -> Result<Command<'a>, AllocError>
 {
     let running = with_command(without_commands(alloc), run_command(alloc))?;
     let making = with_command(running, gen_command(alloc))?;
-    with_command(making, list_command(alloc))
+    let listing = with_command(making, list_command(alloc))?;
+    with_command(listing, serve_command(alloc))
 }

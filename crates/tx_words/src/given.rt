@@ -60,11 +60,22 @@ pub struct Given {
     pub files: Names,
 }
 
+/// What `serve` is given: the same without a script and without a name for what is saved.
+#[derive(Drop)]
+pub struct Serving {
+    pub date: Date,
+    pub limits: Limits,
+    pub main: Name,
+    pub files: Names,
+}
+
 /// What the words of a call ask for.
 #[derive(Drop)]
 pub enum Asked {
     /// A run.
     Run(Given),
+    /// A run, and answers to the requests that come in.
+    Serve(Serving),
     /// A document of so many pages that is made of a seed.
     Gen { seed: u32, pages: u32 },
     /// What the pages of the DVI file of this name bring.
@@ -77,6 +88,8 @@ pub enum Asked {
     GenHelp,
     /// The text that says how `list` is called.
     ListHelp,
+    /// The text that says how `serve` is called.
+    ServeHelp,
     /// The version.
     Version,
     /// Nothing that there is: the words are refused.

@@ -1,5 +1,5 @@
-//! What the words of a call ask for: a run with what it is given, a document that is made, a DVI file that is listed, a help,
-//! the version, or nothing that there is.
+//! What the words of a call ask for: a run with what it is given, or one with answers to requests, a document that is made, a DVI
+//! file that is listed, a help, the version, or nothing that there is.
 //!
 //! Proved: the answer is the defined one, whatever the words are. Only tested: that `clap` reads them as it is told here.
 //!

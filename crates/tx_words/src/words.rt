@@ -4,10 +4,10 @@ ghost use Rattle.clap.specs.Words.{rows_of, found_of, subcommand_name_of, subcom
 ghost use Rattle.tx_machine.specs.Ranges.{IsDate, AreLimits};
 ghost use Rattle.clap.specs.declared.error.kind.ErrorKind.TheVariants.{OutOfMemory};
 ghost use Rattle.tx_words.specs.Values.{are_distinct};
-ghost use Rattle.tx_words.specs.Words.{IsWithin, IsAskedWithin, date_given, name_given, limit_given, limits_given, script_given, files_given, given_of, run_given, seed_given, pages_given, gen_of, gen_asked, list_of, list_asked, command_asked, subcommand_asked, begins_with, help_shown, asked_instead, call_meant, help_of, help_meant, words_meant, texts};
+ghost use Rattle.tx_words.specs.Words.{IsWithin, IsServing, IsAskedWithin, date_given, name_given, limit_given, limits_given, script_given, files_given, given_of, run_given, serving_of, serving_given, seed_given, pages_given, gen_of, gen_asked, list_of, list_asked, command_asked, subcommand_asked, begins_with, help_shown, asked_instead, call_meant, help_of, help_meant, words_meant, texts};
 
 use crate::command::command_line;
-use crate::given::{Asked, Given, Names};
+use crate::given::{Asked, Given, Names, Serving};
 use crate::values::{read_date, read_limit, read_name, read_names, read_seed};
 use clap::ArgMatches;
 use clap::error::ErrorKind;
@@ -140,6 +140,44 @@ fn run_given(alloc: Global, found: &ArgMatches<'_>) -> Result<Option<Given>, All
     given_of(date, limits, out, script, files)
 }
 
+/// All three are as they are to be; the first file is the main one.
+fn serving_of(
+    date: Option<Date>,
+    limits: Option<Limits>,
+    files: Option<Names>,
+) -> Result<Option<Serving>, AllocError>
+    requires dated { IfSome date (λ date. IsDate date) }
+    requires limited { IfSome limits (λ limits. AreLimits limits) }
+    requires apart { IfSome files (λ files. are_distinct files ≡ true) }
+    ensures within { IfOk result (λ serving. IfSome serving IsServing) }
+    ensures serving { IfOk result (λ serving. serving ≡ serving_of date limits files) }
+{
+    let (Some(date), Some(limits), Some(files)) = (date, limits, files) else {
+        return Ok(None);
+    };
+    let Some(main) = files.as_slice().first() else {
+        return Ok(None);
+    };
+    let main = main.clone()?;
+    Ok(Some(Serving {
+        date,
+        limits,
+        main,
+        files,
+    }))
+}
+
+/// What `serve` is given.
+fn serving_given(alloc: Global, found: &ArgMatches<'_>) -> Result<Option<Serving>, AllocError>
+    ensures serving { IfOk result (λ serving. serving ≡ serving_given (rows_of (found_of found.now))) }
+    ensures within { IfOk result (λ serving. IfSome serving IsServing) }
+{
+    let date = date_given(value(found, "date"));
+    let limits = limits_given(found);
+    let files = files_given(alloc, values(found, "file"))?;
+    serving_of(date, limits, files)
+}
+
 fn seed_given(text: Option<&str>) -> Option<u32>
     ensures { result ≡ seed_given (option_map (λ t. t.now) text.entry) }
 {
@@ -205,6 +243,12 @@ fn command_asked(alloc: Global, name: &str, found: &ArgMatches<'_>) -> Result<As
     if name == "list" {
         return list_asked(alloc, found);
     }
+    if name == "serve" {
+        return match serving_given(alloc, found)? {
+            None => Ok(Asked::Nothing),
+            Some(serving) => Ok(Asked::Serve(serving)),
+        };
+    }
     match run_given(alloc, found)? {
         None => Ok(Asked::Nothing),
         Some(given) => Ok(Asked::Run(given)),
@@ -243,6 +287,8 @@ fn help_shown(words: &[String]) -> Asked
         Asked::GenHelp
     } else if begins_with(words, "list") {
         Asked::ListHelp
+    } else if begins_with(words, "serve") {
+        Asked::ServeHelp
     } else {
         Asked::Help
     }
@@ -284,6 +330,8 @@ fn help_of(command: &str) -> Asked
         Asked::GenHelp
     } else if command == "list" {
         Asked::ListHelp
+    } else if command == "serve" {
+        Asked::ServeHelp
     } else if command == "help" {
         Asked::Help
     } else {

@@ -1,15 +1,18 @@
-//! The program `vortex`: it hands the words of the command line, the current folder and standard output to the top call
-//! of `vortex_cmd`, which does all the rest, and ends with its answer as status. Where not all went well it then tells
-//! why on standard error, by what was said and by a second look at the words, the script and the faults of the folder.
+//! The program `vortex`: it hands the words of the command line, the current folder and standard output to the top call of
+//! `vortex_cmd`, which does all the rest, or, where the words ask to serve a document, these and standard input to the one that
+//! does so; and it ends with the answer as status. Where not all went well it then tells why on standard error, by what was said
+//! and by a second look at the words, the script and the faults of the folder.
 //!
-//! Read `arguments`, then `look`, the second look, of which `tx_causes` makes words.
+//! Read `arguments`, then `look`, the second look, of which `tx_causes` makes words, and `serving`.
 #![tactic(auto)]
 
 mod arguments;
 mod look;
+mod serving;
 
 use arguments::{are_text, arguments};
 use look::causes;
+use serving::{asks_to_serve, served};
 use std::process::ExitCode;
 use tx_causes::telling::{tell, tell_all};
 use tx_io::{DirSink, DirSource, FilesRead};
@@ -23,6 +26,14 @@ fn main(rt: HostRuntime) -> ExitCode {
         return ExitCode::from(6);
     };
     let words = words.as_slice();
+    match asks_to_serve(alloc, words) {
+        Ok(true) => return ExitCode::from(served(&rt, alloc, words)),
+        Ok(false) => {}
+        Err(_) => {
+            tell(&rt, alloc, "no memory is left to read the command line");
+            return ExitCode::from(6);
+        }
+    }
     let read = FilesRead::new(alloc);
     let mut source = DirSource::new(&rt, &read);
     let mut sink = DirSink::new(&rt, alloc, &read);

@@ -16,5 +16,5 @@ returns-in_err-say-clause-puts g c =
 pub returns-clause-puts : goal.returns-clause-puts
 returns-clause-puts g c =
     let line : c.as_slice.result.now ≡ memory_line (c.args.tally.edits + 1) = search rules in
-    puts-behind c.save_session.result _ (Say (memory_line (c.args.tally.edits + 1)) ∷ []) (saved_pieces c.args.out.now (fresh g.M.Machine.formatter c.args.session.now).ran) _
-    (subst (λ (text : List ℕ). g.K.Sink.output c.say.new.sink ≡ told (g.K.Sink.output c.args.sink.now) (Say text ∷ [])) line c.in_ok-say.ensures.puts) c.save_session.ensures.puts
+    puts-behind c.save_document.result _ (Say (memory_line (c.args.tally.edits + 1)) ∷ []) (saved_pieces c.args.out.now (fresh g.M.Machine.formatter c.args.session.now).ran) _
+    (subst (λ (text : List ℕ). g.K.Sink.output c.say.new.sink ≡ told (g.K.Sink.output c.args.sink.now) (Say text ∷ [])) line c.in_ok-say.ensures.puts) c.save_document.ensures.puts

@@ -25,15 +25,15 @@ returns-in_err-tally-clause-puts g c =
     (refusal_at g.M.Machine.formatter c.args.out.now (opened c.args.session.now) c.args.commands.now) (g.K.Sink.output c.args.sink.now)
     Tally c.from_residual-in_err-tally.result c.in_err-tally.field-0.0 _ _ c.from_residual-in_err-tally.ensures.1 c.in_ok-say_run.ensures.puts c.in_err-tally.ensures.puts
 
-pub returns-in_err-save_session-clause-puts : goal.returns-in_err-save_session-clause-puts
-returns-in_err-save_session-clause-puts g c =
+pub returns-in_err-save_document-clause-puts : goal.returns-in_err-save_document-clause-puts
+returns-in_err-save_document-clause-puts g c =
     last-cut
     (first_piece (fresh g.M.Machine.formatter c.args.session.now).ran)
     (pieces_from g.M.Machine.formatter (opened c.args.session.now) c.args.commands.now)
     (saved_pieces c.args.out.now (fresh g.M.Machine.formatter (moment_after (opened c.args.session.now) c.args.commands.now).held).ran)
     (refusal_at g.M.Machine.formatter c.args.out.now (opened c.args.session.now) c.args.commands.now) (g.K.Sink.output c.args.sink.now)
-    c.from_residual-in_err-save_session.result c.in_err-save_session.field-0.0 _ _ _ _ c.from_residual-in_err-save_session.ensures.1 c.in_ok-say_run.ensures.puts c.in_ok-tally.ensures.puts
-    (ap (λ (t : Moment). saved_pieces c.args.out.now (fresh g.M.Machine.formatter t.held).ran) c.in_ok-tally.ensures.moment) c.in_err-save_session.ensures.puts
+    c.from_residual-in_err-save_document.result c.in_err-save_document.field-0.0 _ _ _ _ c.from_residual-in_err-save_document.ensures.1 c.in_ok-say_run.ensures.puts c.in_ok-tally.ensures.puts
+    (ap (λ (t : Moment). saved_pieces c.args.out.now (fresh g.M.Machine.formatter t.held).ran) c.in_ok-tally.ensures.moment) c.in_err-save_document.ensures.puts
 
 pub returns-clause-puts : goal.returns-clause-puts
 returns-clause-puts g c =
@@ -43,4 +43,4 @@ returns-clause-puts g c =
     (saved_pieces c.args.out.now (fresh g.M.Machine.formatter (moment_after (opened c.args.session.now) c.args.commands.now).held).ran)
     (refusal_at g.M.Machine.formatter c.args.out.now (opened c.args.session.now) c.args.commands.now) (g.K.Sink.output c.args.sink.now)
     0 _ _ _ _ c.in_ok-say_run.ensures.puts c.in_ok-tally.ensures.puts
-    (ap (λ (t : Moment). saved_pieces c.args.out.now (fresh g.M.Machine.formatter t.held).ran) c.in_ok-tally.ensures.moment) c.in_ok-save_session.ensures.puts
+    (ap (λ (t : Moment). saved_pieces c.args.out.now (fresh g.M.Machine.formatter t.held).ran) c.in_ok-tally.ensures.moment) c.in_ok-save_document.ensures.puts

@@ -7,7 +7,7 @@ use Rattle.tx_call.specs.Trouble.{Does}
 use Rattle.tx_words.specs.Words.{script_asked, dvi_asked, words_meant, texts}
 use Rattle.tx_words.specs.declared.given.Asked.{Asked}
 use Rattle.tx_call.specs.declared.trouble.Trouble.TheVariants.{Memory}
-use Rattle.tx_words.specs.declared.given.Asked.TheVariants.{Run, Gen, Listing, Help, RunHelp, GenHelp, ListHelp, Version, Nothing}
+use Rattle.tx_words.specs.declared.given.Asked.TheVariants.{Run, Serve, Gen, Listing, Help, RunHelp, GenHelp, ListHelp, ServeHelp, Version, Nothing}
 use Rattle.tx_call.proofs.Held.{words_do_nothing, of_words, of_words_alone}
 use Rattle.tx_call.proofs.run.run_words.Goals as goal
 
@@ -24,6 +24,11 @@ returns-in-Run-clause-refused g c =
     let are : Run c.in-Run.given ≡ words_meant (texts c.args.words.now) = search rules in
     IfOk-weaker c.run_given.result _ _
     (λ status refused two. inr (inl (subst (λ (a : Asked). NamesNoScript (g.S.Source.holds c.args.source.now) (script_asked a)) are (refused two)))) c.run_given.ensures.refused
+
+pub returns-in-Serve-clause-does : goal.returns-in-Serve-clause-does
+returns-in-Serve-clause-does g c =
+    let are : Serve c.in-Serve.serving ≡ words_meant (texts c.args.words.now) = search rules in
+    of_words g.M.Machine.formatter (texts c.args.words.now) (Serve c.in-Serve.serving) are (Unread (λ scripted. c.run_unasked.ensures.does))
 
 pub returns-in-Gen-clause-does : goal.returns-in-Gen-clause-does
 returns-in-Gen-clause-does g c =
@@ -71,6 +76,13 @@ returns-in-ListHelp-clause-does g c =
     of_words_alone g.M.Machine.formatter (texts c.args.words.now) ListHelp are
     (λ scripted held. subst (λ (text : List ℕ). Does c.say_only-in-ListHelp.result (saying text 0) (g.K.Sink.output c.args.sink.now) (g.K.Sink.output c.say_only-in-ListHelp.new.sink) c.args.steps.now c.args.steps.now)
     c.list_help_text.ensures (c.say_only-in-ListHelp.ensures.does c.args.steps.now))
+
+pub returns-in-ServeHelp-clause-does : goal.returns-in-ServeHelp-clause-does
+returns-in-ServeHelp-clause-does g c =
+    let are : ServeHelp ≡ words_meant (texts c.args.words.now) = search rules in
+    of_words_alone g.M.Machine.formatter (texts c.args.words.now) ServeHelp are
+    (λ scripted held. subst (λ (text : List ℕ). Does c.say_only-in-ServeHelp.result (saying text 0) (g.K.Sink.output c.args.sink.now) (g.K.Sink.output c.say_only-in-ServeHelp.new.sink) c.args.steps.now c.args.steps.now)
+    c.serve_help_text.ensures (c.say_only-in-ServeHelp.ensures.does c.args.steps.now))
 
 pub returns-in-Version-clause-does : goal.returns-in-Version-clause-does
 returns-in-Version-clause-does g c =

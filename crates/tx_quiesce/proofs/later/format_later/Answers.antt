@@ -1,6 +1,6 @@
 use Rattle.std.proofs.Common.{◌≡◌, ◌-◌, length, min, refl, ap, ◌∙◌, arith, rules}
 use Rattle.tx_checkpoint.specs.Resume.{start_of}
-use Rattle.tx_quiesce.proofs.Laters.{further-counted, further-bound, over-later, over-count, met-few, met-can, met-turns, met-count, met-later, met-fits}
+use Rattle.tx_quiesce.proofs.Laters.{further-counted, further-bound, over-later, over-count, met-never, met-few, met-can, met-turns, met-count, met-later, met-fits}
 use Rattle.tx_quiesce.proofs.later.format_later.Goals as goal
 
 pub left_of-left-requires : goal.left_of-left-requires
@@ -49,3 +49,9 @@ pub returns-in_ok-further-in-Met-clause-count : goal.returns-in_ok-further-in-Me
 returns-in_ok-further-in-Met-clause-count g c =
     met-count g.M.Machine.formatter g.M.Machine.meaning c.args.files.now c.args.changes.now c.args.old.now c.args.kept c.args.main.now c.args.date.now c.args.limits.now c.in_ok-pages.field-0 c.in_ok-pages.ensures.reaches c.in-Met.is (search (rules, c.len-formatted.ensures)) c.left_of-left.ensures
     (c.min-count.ensures ∙ ap (λ n. min c.left_of-left.result (n - c.in-Met.number)) (search (rules, c.len-in-Met.ensures)))
+
+pub returns-in-Over-clause-alone : goal.returns-in-Over-clause-alone
+returns-in-Over-clause-alone g c none = (c.only.ensures.pages, c.only.ensures.pieces, c.only.ensures.rows)
+
+pub returns-in_ok-further-in-Met-clause-alone : goal.returns-in_ok-further-in-Met-clause-alone
+returns-in_ok-further-in-Met-clause-alone g c none = absurd (met-never g.M.Machine.formatter g.M.Machine.meaning c.args.files.now c.args.changes.now c.args.old.now c.args.kept c.args.main.now c.args.date.now c.args.limits.now c.in_ok-pages.field-0 c.in_ok-pages.ensures.reaches c.in-Met.is none)

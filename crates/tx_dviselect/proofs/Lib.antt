@@ -1,0 +1,4 @@
+mod Leaning
+mod Means
+mod Choosing
+mod Filing

@@ -1,0 +1,10 @@
+mod Words
+mod Sizes
+mod Heads
+mod Bodies
+mod Lines
+mod Cuts
+mod Streams
+mod Batches
+mod Fronts
+mod Pieces
