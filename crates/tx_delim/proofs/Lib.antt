@@ -1,0 +1,4 @@
+pub mod Along
+pub mod Steps
+pub mod Copies
+mod Worked
