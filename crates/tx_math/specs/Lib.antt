@@ -10,9 +10,9 @@ pub mod Operators
 pub mod Delimiters
 pub mod Fractions
 pub mod Radicals
-pub mod Accents
 pub mod Entries
 pub mod Composing
+pub mod Accents
 pub mod Classes
 pub mod Spacing
 pub mod Fences

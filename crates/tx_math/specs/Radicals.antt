@@ -10,10 +10,13 @@ use Rattle.tx_math.specs.Outcomes.{passed}
 use Rattle.tx_math.specs.Parameters.{Math, half, quarter, rule_thickness, x_height}
 use Rattle.tx_math.specs.Styles.{is_display}
 
--- how far the line is above what stands below it, at first: as it is thick, and in display style a quarter of the x-height more, else
--- a quarter of its thickness
+-- how far the line is above what stands below it, at first: as lines are thick, and in display style a quarter of the x-height more,
+-- else a quarter of that thickness
+abbrev pub clearance_unit : Math → ℕ → ℤ
+clearance_unit m style = if is_display style then x_height m style else rule_thickness m style
+
 unfoldable pub first_clearance : Math → ℕ → ℤ
-first_clearance m style = rule_thickness m style +ℤ quarter (if is_display style then x_height m style else rule_thickness m style)
+first_clearance m style = rule_thickness m style +ℤ quarter (clearance_unit m style)
 
 -- how far that reaches from its depth to the line
 unfoldable pub radicand_size : PackedBox → ℤ → ℤ
