@@ -1,5 +1,5 @@
-//! Delimiters (TeX: The Program, sections 706 to 714): the character of a font that is tall enough, along its successors; its box, or
-//! the stack of pieces that its recipe builds; and the widest accent that fits above something (section 740). Which fonts and
+//! Delimiters (TeX: The Program, sections 706 to 714): the character of a font that is tall enough, along its successors; its box,
+//! or the stack of pieces that its recipe builds; and the widest accent that fits above something (section 740). Which fonts and
 //! characters are looked at is told by the caller, who knows families and styles.
 //!
 //! Proved: a search finds the character that is defined; a box has the defined sizes and pieces, and each error comes exactly where

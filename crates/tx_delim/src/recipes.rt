@@ -50,11 +50,7 @@ fn step_tallness(fonts: &Fonts, font: u8, recipe: Word) -> i64
     ensures bound { unsigned_abs result ≤ 2 ^ 33 }
 {
     let piece = tallness(fonts, font, recipe.d);
-    if recipe.b == 0 {
-        piece
-    } else {
-        piece + piece
-    }
+    if recipe.b == 0 { piece } else { piece + piece }
 }
 
 /// The least number of steps of this size that make up so much.

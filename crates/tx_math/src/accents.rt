@@ -67,12 +67,7 @@ fn topped(alloc: Global, space: i32, inner: BoxNode) -> Result<Nodes, AllocError
 }
 
 /// A vertical box that a kern fills up to this height, with this width, in sp.
-fn filled_up(
-    alloc: Global,
-    width: i64,
-    height: i64,
-    inner: BoxNode,
-) -> Result<BoxNode, MathError>
+fn filled_up(alloc: Global, width: i64, height: i64, inner: BoxNode) -> Result<BoxNode, MathError>
     requires { unsigned_abs height ≤ 2 ^ 31 }
     ensures made { IfOk result (λ made. spec.filled_up width height inner ≡ Ok made) }
     ensures error { IfErr result (λ e. e ≢ OutOfMemory → spec.filled_up width height inner ≡ Err e) }

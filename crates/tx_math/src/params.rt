@@ -22,9 +22,9 @@ pub struct FamilyFonts {
     pub script_script: [u8; 16],
 }
 
-/// The fonts of the families and the parameters of formulas, by TeX's names, in sp: the three spaces, told in mu, how tall delimiters
-/// are at least, in thousandths of what they enclose and by how much they fall short of it, the widths of delimiters that aren't there
-/// and of what stands behind scripts, the penalties behind operations and relations, and the parameters of horizontal boxes.
+/// The fonts of the families and the parameters of formulas, by TeX's names, in sp: the three spaces, told in mu, how tall
+/// delimiters are at least, in thousandths of what they enclose and by how much they may fall short of it, the width of one that
+/// isn't there, that behind scripts, the penalties behind operations and relations, and the parameters of horizontal boxes.
 #[derive(Clone, Copy)]
 pub struct MathParams {
     pub families: FamilyFonts,

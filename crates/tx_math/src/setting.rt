@@ -343,12 +343,7 @@ impl Setter<'_> {
     }
 
     /// The kern that moves the accent of a nucleus, in sp, and what is told of it.
-    fn nucleus_skew(
-        &self,
-        style: u8,
-        nucleus: &Field,
-        report: &mut Bytes,
-    ) -> Result<i64, MathError>
+    fn nucleus_skew(&self, style: u8, nucleus: &Field, report: &mut Bytes) -> Result<i64, MathError>
         ensures made { IfOk result (λ skew. spec.nucleus_skew (math_in self.now) style (part_of nucleus.now) report.old ≡ Ok (skew, report.new)) }
         ensures near { IfOk result (λ skew. unsigned_abs skew ≤ 2 ^ 31) }
         ensures error { IfErr result (λ e. e ≢ OutOfMemory → spec.nucleus_skew (math_in self.now) style (part_of nucleus.now) report.old ≡ Err e) }

@@ -9,8 +9,8 @@ pub struct Sign {
     pub inner: BoxNode,
 }
 
-/// An accent, by its font's number and its code; how far to the right it is moved, and how far it is lowered onto what it stands on, in
-/// sp (TeX: The Program, section 738).
+/// An accent, by its font's number and its code; how far to the right it is moved, and how far it is lowered onto what it stands
+/// on, in sp (TeX: The Program, section 738).
 #[derive(Clone, Copy)]
 pub struct AccentPlace {
     pub font: u8,

@@ -256,7 +256,9 @@ impl Setter<'_> {
     {
         match piece {
             Piece::Fence(kind, delimiter) => {
-                self.append_fence(alloc, list, penalties, fences, spaces, kind, delimiter, rest)?;
+                self.append_fence(
+                    alloc, list, penalties, fences, spaces, kind, delimiter, rest,
+                )?;
                 Ok(Spaces {
                     style: spaces.style,
                     before: Some(kind),
@@ -301,9 +303,7 @@ impl Setter<'_> {
             before: None,
         };
         while let Some(piece) = rest.pop() {
-            spaces = self.append_piece(
-                alloc, &mut list, penalties, fences, spaces, piece, &rest,
-            )?;
+            spaces = self.append_piece(alloc, &mut list, penalties, fences, spaces, piece, &rest)?;
         }
         Ok(list)
     }

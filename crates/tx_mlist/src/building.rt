@@ -327,12 +327,7 @@ impl Mlist {
     {
         match above {
             None => Ok(self),
-            Some(
-                Above {
-                    head,
-                    numerator,
-                },
-            ) => {
+            Some(Above { head, numerator }) => {
                 let fraction = Fraction {
                     head,
                     numerator,
@@ -389,9 +384,9 @@ impl Mlist {
         }
     }
 
-    /// What a group gives whose list this is stands at a place of the last noad, which is an atom; or, where the group is the nucleus
-    /// of an Ord and has an accent alone, this stands in the Ord's place. `TooDeep` as `into_inner` says. After an error the list may
-    /// only be dropped.
+    /// What a group gives whose list this is stands at a place of the last noad, which is an atom; or, where the group is the
+    /// nucleus of an Ord and has an accent alone, this stands in the Ord's place. `TooDeep` as `into_inner` says. After an error
+    /// the list may only be dropped.
     pub fn fill_group(&mut self, place: Place, group: Mlist) -> Result<(), MlistError>
         ensures made { OnOk result (spec.grouped place group self.old ≡ Ok self.new) }
         ensures error { IfErr result (λ e. e ≢ OutOfMemory → spec.grouped place group self.old ≡ Err e) }

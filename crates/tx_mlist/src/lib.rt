@@ -1,6 +1,6 @@
-//! Lists of mathematics, before they are set (TeX: The Program, part 34): atoms with their scripts, fractions, delimiters, choices by
-//! style, changes of style, and what else stands in a formula. What has lists in it keeps how deep they nest, which the groups of a
-//! document bound; clones of a list share what they have.
+//! Lists of mathematics, before they are set (TeX: The Program, part 34): atoms with their scripts, fractions, delimiters, choices
+//! by style, changes of style, and what else stands in a formula. What has lists in it keeps how deep they nest, which the groups
+//! of a document bound; clones of a list share what they have.
 //!
 //! Proved: a list is what was put into it; scripts, limits, fractions, groups and what stands between delimiters become what
 //! `specs/Building.antt` makes of them; and two lists are the same exactly where they are equal. Only tested: nothing.
