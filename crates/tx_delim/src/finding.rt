@@ -111,7 +111,7 @@ fn search_along(fonts: &Fonts, asked: i64, font: u8, code: u8, begun: Search) ->
 
 /// The search for a character of this height plus depth, in sp, behind a character of the font of a number and its successors. It
 /// stays as it is where it was over, and where the font lacks the character.
-pub fn search(fonts: &Fonts, asked: i64, font: u8, code: u8, begun: Search) -> Search
+pub fn look_along(fonts: &Fonts, asked: i64, font: u8, code: u8, begun: Search) -> Search
     ensures { result ≡ spec.searched fonts.now asked font code begun }
 {
     if begun.over {

@@ -20,6 +20,6 @@ mod stacking;
 pub use boxes::{character_box, character_of, full_width};
 pub use delimiters::delimiter_box;
 pub use error::DelimError;
-pub use finding::{begin_search, search};
+pub use finding::{begin_search, look_along};
 pub use fitting::widest_fitting;
 pub use search::{FontCharacter, Search};

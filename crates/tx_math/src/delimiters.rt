@@ -12,7 +12,7 @@ use crate::setter::Setter;
 use crate::signs::Sign;
 use crate::styles::size_of;
 use std::alloc::Global;
-use tx_delim::{Search, begin_search, delimiter_box, search};
+use tx_delim::{Search, begin_search, delimiter_box, look_along};
 use tx_mlist::{Delimiter, MathCharacter};
 use tx_node::{BoxNode, Node};
 
@@ -35,7 +35,7 @@ impl Setter<'_> {
         ensures { result ≡ spec.looked_in (math_in self.now) asked character size begun }
     {
         let font = self.family_font(size, character.family);
-        search(self.fonts, asked, font, character.code, begun)
+        look_along(self.fonts, asked, font, character.code, begun)
     }
 
     /// The same in the fonts of that size and of the larger ones.

@@ -642,7 +642,7 @@ impl Setter<'_> {
         ensures error { IfErr result (λ e. e ≢ OutOfMemory → spec.accent_on (spec.inward levels (math_in self.now)) (math_in self.now) style (part_of atom.now.nucleus) (part_of atom.now.superscript) (part_of atom.now.subscript) place inner report.old ≡ Err e) }
     {
         if takes_scripts(atom) {
-            self.accent_with(alloc, levels, style, atom, place, inner, report)
+            self.accent_with(alloc, levels, style, atom, place, &inner, report)
         } else {
             self.accent_before(alloc, levels, style, atom, place, inner, report)
         }
@@ -658,16 +658,16 @@ impl Setter<'_> {
         style: u8,
         atom: &Atom,
         place: AccentPlace,
-        inner: BoxNode,
+        inner: &BoxNode,
         report: &mut Bytes,
     ) -> Result<Nodes, MathError>
         requires setter { IsSetter self.now }
         requires place { unsigned_abs place.down ≤ 2 ^ 31 }
-        ensures made { IfOk result (λ list. spec.accent_with (spec.inward levels (math_in self.now)) (math_in self.now) style (part_of atom.now.nucleus) (part_of atom.now.superscript) (part_of atom.now.subscript) place inner report.old ≡ Ok (list, report.new)) }
-        ensures error { IfErr result (λ e. e ≢ OutOfMemory → spec.accent_with (spec.inward levels (math_in self.now)) (math_in self.now) style (part_of atom.now.nucleus) (part_of atom.now.superscript) (part_of atom.now.subscript) place inner report.old ≡ Err e) }
+        ensures made { IfOk result (λ list. spec.accent_with (spec.inward levels (math_in self.now)) (math_in self.now) style (part_of atom.now.nucleus) (part_of atom.now.superscript) (part_of atom.now.subscript) place inner.now report.old ≡ Ok (list, report.new)) }
+        ensures error { IfErr result (λ e. e ≢ OutOfMemory → spec.accent_with (spec.inward levels (math_in self.now)) (math_in self.now) style (part_of atom.now.nucleus) (part_of atom.now.superscript) (part_of atom.now.subscript) place inner.now report.old ≡ Err e) }
     {
         let grown = self.scripted_box(alloc, levels, style, atom, report)?;
-        let place = place_on(place, &inner, &grown);
+        let place = place_on(place, inner, &grown);
         let Nucleus { nodes, .. } = self.accent_nucleus(alloc, place, grown)?;
         Ok(nodes)
     }

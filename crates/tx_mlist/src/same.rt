@@ -28,7 +28,7 @@ fn same_character(a: MathCharacter, b: MathCharacter) -> bool
 fn same_delimiter(a: Delimiter, b: Delimiter) -> bool
     ensures { IsTrue result ↔ (a ≡ b) }
 {
-    same_character(a.small, b.small) && same_character(a.large, b.large)
+    a == b
 }
 
 /// Whether two fractions have the same line.
