@@ -392,13 +392,16 @@ impl Mlist {
         ensures error { IfErr result (λ e. e ≢ OutOfMemory → spec.grouped place group self.old ≡ Err e) }
     {
         match self.accent_for(place, &group)? {
-            Some(accent) => self.replace(accent)?,
+            Some(accent) => {
+                self.replace(accent)?;
+                Ok(())
+            }
             None => {
                 let part = group.into_part()?;
                 self.fill(place, part)?;
+                Ok(())
             }
         }
-        Ok(())
     }
 
     /// The list between \left and \right, as an Inner. `TooDeep` as `into_inner` says.
