@@ -4,3 +4,4 @@ pub mod Fitting
 pub mod Boxes
 pub mod Stacking
 pub mod Delimiters
+pub mod Slants

@@ -113,7 +113,7 @@ fn reach_of(pieces: &[Piece]) -> Reach
 
 /// A size by 500, in sp, rounded towards 0.
 #[tactic(auto, using(crate::proofs::Bounds::part_small))]
-fn part_of(size: i64) -> i64
+fn five_hundredth(size: i64) -> i64
     requires { unsigned_abs size ≤ 2 ^ 33 }
     ensures value { result ≡ int_div size (pos 500) }
     ensures bound { unsigned_abs result ≤ 2 ^ 25 }
@@ -139,7 +139,7 @@ impl Setter<'_> {
         ensures value { result ≡ spec.fence_size (math_in self.now) far }
         ensures bound { unsigned_abs result ≤ 2 ^ 59 }
     {
-        let part = times(part_of(far), i64::from(self.params.delimiter_factor));
+        let part = times(five_hundredth(far), i64::from(self.params.delimiter_factor));
         let shortfall = i64::from(self.params.delimiter_shortfall);
         greater(part, minus(plus(far, far), shortfall))
     }
