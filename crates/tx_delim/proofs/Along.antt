@@ -15,10 +15,11 @@ pub along_on : (n : ℕ) (fonts : List FontState) (asked : ℤ) (font code : ℕ
 unfolding along
 along_on zero fonts asked font code at s s' h there s_is at_is = absurd (omega arith)
 along_on (suc n) fonts asked font code at s s' h there s_is at_is =
+    let one_less : n ≡ suc n - 1 = omega arith in
     ap (λ (t : Bool). if t then along n fonts asked font (next_in fonts font code (looked_at fonts asked font code s)) (looked_at fonts asked font code s) else s) there
     ∙ ap (λ (x : Search). along n fonts asked font (next_in fonts font code x) x) (sym s_is)
     ∙ ap (λ (a : Option ℕ). along n fonts asked font a s') (sym at_is)
-    ∙ ap (λ (k : ℕ). along k fonts asked font at s') (omega arith)
+    ∙ ap (λ (k : ℕ). along k fonts asked font at s') one_less
 
 -- it ends where the font lacks the character, where there is none, and where no more are looked at
 pub along_gone : (n : ℕ) (fonts : List FontState) (asked : ℤ) (font code : ℕ) (s : Search) → has_character fonts font code ≡ false
@@ -45,8 +46,9 @@ pub fitting_on : (n : ℕ) (fonts : List FontState) (width : ℤ) (font code nex
 unfolding fitting_within
 fitting_on zero fonts width font code next h is = absurd (omega arith)
 fitting_on (suc n) fonts width font code next h is =
+    let one_less : n ≡ suc n - 1 = omega arith in
     ap (λ (o : Option ℕ). option_map_or (fitting_within n fonts width font) o code) is
-    ∙ ap (λ (k : ℕ). fitting_within k fonts width font next) (omega arith)
+    ∙ ap (λ (k : ℕ). fitting_within k fonts width font next) one_less
 
 pub fitting_last : (n : ℕ) (fonts : List FontState) (width : ℤ) (font code : ℕ) → next_fitting fonts width font code ≡ None
     → fitting_within n fonts width font code ≡ code

@@ -6,7 +6,8 @@ use Rattle.tx_node.specs.Items.{Item}
 pub copies_on : (list : List Item) (item : Item) (n : ℕ) → 0 < n → (list ++ item ∷ []) ++ replicate (n - 1) item ≡ list ++ replicate n item
 copies_on list item zero h = absurd (omega arith)
 copies_on list item (suc n) h =
-    ap (λ (k : ℕ). (list ++ item ∷ []) ++ replicate k item) (omega arith) ∙ append_assoc list (item ∷ []) (replicate n item)
+    let one_less : suc n - 1 ≡ n = omega arith in
+    ap (λ (k : ℕ). (list ++ item ∷ []) ++ replicate k item) one_less ∙ append_assoc list (item ∷ []) (replicate n item)
 
 pub copies_over : (list : List Item) (item : Item) (n : ℕ) → n ≡ 0 → list ++ replicate n item ≡ list
 copies_over list item zero h = append-nil list

@@ -27,11 +27,11 @@ looked_from m asked c Script s = looked_in m asked c Text (looked_in m asked c S
 looked_from m asked c ScriptScript s = looked_in m asked c Text (looked_in m asked c Script (looked_in m asked c ScriptScript s))
 
 -- but not from one whose family and code are 0, which is none
-abbrev pub is_none : MathCharacter → Bool
-is_none c = c.family == 0 && c.code == 0
+abbrev pub is_absent : MathCharacter → Bool
+is_absent c = c.family == 0 && c.code == 0
 
 abbrev pub looked_for : Math → ℤ → MathSize → MathCharacter → Search → Search
-looked_for m asked size c s = if is_none c then s else looked_from m asked c size s
+looked_for m asked size c s = if is_absent c then s else looked_from m asked c size s
 
 -- from the small one first, and then from the large one
 abbrev pub search_for : Math → ℤ → MathSize → Delimiter → Search

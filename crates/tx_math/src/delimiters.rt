@@ -17,8 +17,8 @@ use tx_mlist::{Delimiter, MathCharacter};
 use tx_node::{BoxNode, Node};
 
 /// Whether a character is none: its family and code are 0.
-fn is_none(character: MathCharacter) -> bool
-    ensures { result ≡ spec.is_none character }
+fn is_absent(character: MathCharacter) -> bool
+    ensures { result ≡ spec.is_absent character }
 {
     character.family == 0 && character.code == 0
 }
@@ -72,7 +72,7 @@ impl Setter<'_> {
     ) -> Search
         ensures { result ≡ spec.looked_for (math_in self.now) asked size character begun }
     {
-        if is_none(character) {
+        if is_absent(character) {
             begun
         } else {
             self.looked_from(asked, character, size, begun)
