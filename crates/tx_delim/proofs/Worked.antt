@@ -1,5 +1,5 @@
 -- The definitions at characters of a small font, worked by hand (TeX: The Program, sections 706 to 714 and 740).
-use Rattle.std.proofs.Common.{◌≡◌, ℕ, ℤ, pos, negsuc, Bool, true, false, List, [], ◌∷◌, Option, Some, None, Result, Ok, Err, refl}
+use Rattle.std.proofs.Common.{◌≡◌, ℕ, ℤ, pos, negsuc, Bool, true, false, List, [], ◌∷◌, Some, None, Result, Ok, Err, refl}
 use Rattle.tx_node.specs.declared.head.Direction.TheVariants.{Horizontal, Vertical}
 use Rattle.tx_node.specs.declared.plain.Plain.TheVariants.{Character}
 use Rattle.tx_node.specs.Items.{Item, PackedBox, plain, box_item}

@@ -1,11 +1,10 @@
 -- Characters that are tall enough for a delimiter (TeX: The Program, sections 706 to 708).
-use Rattle.std.specs.Prelude.{ℕ, zero, suc, Bool, true, false, not, ℤ, pos, ◌+ℤ◌, int_lt, List, Option, Some, None, option_and_then, if◌then◌else◌}
+use Rattle.std.specs.Prelude.{ℕ, zero, suc, true, false, not, ℤ, pos, ◌+ℤ◌, int_lt, List, Option, Some, None, option_and_then, if◌then◌else◌}
 use Rattle.tx_tfm.specs.declared.file.Word.{Word}
 use Rattle.tx_tfm.specs.declared.named.NamedFont.{NamedFont}
 use Rattle.tx_tfm.specs.declared.state.FontState.{FontState}
 use Rattle.tx_tfm.specs.Fonts.{character_depth, character_height, font_at, has_character}
 use Rattle.tx_tfm.specs.Metrics.{recipe_of, successor_of}
-use Rattle.tx_delim.specs.declared.search.FontCharacter.{FontCharacter}
 use Rattle.tx_delim.specs.declared.search.Search.{Search}
 
 -- how tall a character is: its height and its depth (section 712)

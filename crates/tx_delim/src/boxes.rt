@@ -1,5 +1,5 @@
 //! Boxes with sizes of their own, and a character in one (TeX: The Program, sections 136 and 709).
-ghost use Rattle.std.specs.Prelude.{◌≡◌, ◌≢◌, ◌≤◌, ◌^◌, ◌∷◌, [], unsigned_abs, IfOk, IfErr, Ok, Err};
+ghost use Rattle.std.specs.Prelude.{◌≡◌, ◌≢◌, ◌≤◌, ◌^◌, unsigned_abs, IfOk, IfErr, Ok, Err};
 ghost use Rattle.tx_node.specs.Nodes.{item_of};
 ghost use Rattle.tx_word.specs.Words.{character_of as character_in};
 ghost use Rattle.tx_delim.specs.Boxes as spec;

@@ -1,5 +1,5 @@
 //! How far an accent of a text stands from its character (TeX: The Program, section 1125).
-ghost use Rattle.std.specs.Prelude.{◌≡◌, ◌≤◌, ◌^◌, ◌*ℤ◌, pos, unsigned_abs};
+ghost use Rattle.std.specs.Prelude.{◌≡◌, ◌≤◌, ◌^◌, ◌*ℤ◌, unsigned_abs};
 ghost use Rattle.tx_num.specs.Fractions.{nearest};
 ghost use Rattle.tx_delim.specs.Slants as spec;
 

@@ -1,6 +1,6 @@
 -- The definitions of delimiters, radicals and accents at characters of a small font, worked by hand (The TeXbook, appendix G, rules 11,
 -- 12 and 19). The font is that of all families at all sizes.
-use Rattle.std.proofs.Common.{◌≡◌, ℕ, ◌*◌, ℤ, pos, negsuc, List, [], ◌∷◌, Some, Ok, Result, refl}
+use Rattle.std.proofs.Common.{◌≡◌, ℕ, ℤ, pos, negsuc, List, [], ◌∷◌, Some, Ok, refl}
 use Rattle.std.specs.Prelude.{replicate}
 use Rattle.tx_num.specs.Glue.{zero_glue}
 use Rattle.tx_node.specs.declared.character.Character.{Character as CharacterItem}
@@ -18,7 +18,6 @@ use Rattle.tx_delim.specs.Searching.{along}
 use Rattle.tx_delim.specs.Stacking.{least_steps, least_tallness, stack_depth, stack_list, stack_of, stack_tallness, step_tallness, upper_part}
 use Rattle.tx_delim.proofs.Lettered.{fonts, pt}
 use Rattle.tx_mlist.specs.declared.kinds.Delimiter.{Delimiter}
-use Rattle.tx_math.specs.declared.error.MathError.{MathError}
 use Rattle.tx_math.specs.declared.params.MathParams.{MathParams}
 use Rattle.tx_math.specs.declared.signs.AccentPlace.{AccentPlace}
 use Rattle.tx_math.specs.Accents.{accent_box, accent_item, accent_place, accent_stack, as_high, moved_right, place_on, skew_of}

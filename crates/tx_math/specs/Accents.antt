@@ -1,5 +1,5 @@
 -- \mathaccent (The TeXbook, appendix G, rule 12; TeX: The Program, sections 738 to 742).
-use Rattle.std.specs.Prelude.{ℕ, nat_le, nat_lt, ℤ, pos, negsuc, ◌+ℤ◌, ◌-ℤ◌, neg_ℤ, int_lt, List, [], ◌∷◌, Option, Some, None, Result, Ok, if◌then◌else◌}
+use Rattle.std.specs.Prelude.{ℕ, nat_le, nat_lt, ℤ, pos, negsuc, ◌+ℤ◌, ◌-ℤ◌, neg_ℤ, int_lt, [], ◌∷◌, Option, Some, None, Result, if◌then◌else◌}
 use Rattle.tx_node.specs.declared.character.Character.{Character as CharacterItem}
 use Rattle.tx_node.specs.Items.{Item, PackedBox, box_item}
 use Rattle.tx_prim.specs.declared.family.FontNumber.TheVariants.{Skew}

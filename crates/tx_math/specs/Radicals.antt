@@ -1,5 +1,5 @@
 -- \radical (The TeXbook, appendix G, rule 11; TeX: The Program, sections 705 and 737).
-use Rattle.std.specs.Prelude.{ℕ, ℤ, pos, ◌+ℤ◌, ◌-ℤ◌, neg_ℤ, int_lt, [], ◌∷◌, Result, Ok, if◌then◌else◌}
+use Rattle.std.specs.Prelude.{ℕ, ℤ, pos, ◌+ℤ◌, ◌-ℤ◌, neg_ℤ, int_lt, [], ◌∷◌, Result, if◌then◌else◌}
 use Rattle.tx_node.specs.Items.{PackedBox, box_item}
 use Rattle.tx_mlist.specs.declared.kinds.Delimiter.{Delimiter}
 use Rattle.tx_math.specs.declared.error.MathError.{MathError}

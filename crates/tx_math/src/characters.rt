@@ -1,5 +1,5 @@
 //! Characters of families (TeX: The Program, sections 709 and 722 to 724).
-ghost use Rattle.std.specs.Prelude.{◌≡◌, ◌≢◌, ◌≤◌, ◌^◌, ◌++◌, unsigned_abs, IfOk, IfErr, OnOk, Ok, Err};
+ghost use Rattle.std.specs.Prelude.{◌≡◌, ◌≢◌, ◌++◌, IfOk, IfErr, OnOk, Ok, Err};
 ghost use Rattle.tx_math.specs.Characters as spec;
 ghost use Rattle.tx_math.specs.Setters.{IsNucleus, math_in};
 ghost use Rattle.tx_math.specs.declared.error.MathError.TheVariants.{OutOfMemory};
