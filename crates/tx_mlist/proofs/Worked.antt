@@ -1,14 +1,13 @@
 -- The definitions of how lists are built, at small ones that were worked by hand (The TeXbook, chapters 17, 18 and 26).
-use Rattle.std.proofs.Common.{◌≡◌, ℕ, ℤ, pos, negsuc, true, false, Option, [], ◌∷◌, None, Some, Ok, refl}
+use Rattle.std.proofs.Common.{◌≡◌, ℕ, pos, negsuc, true, false, [], ◌∷◌, None, Some, Ok, refl}
 use Rattle.std.specs.Prelude.{◌/◌}
 use Rattle.tx_mlist.specs.declared.kinds.AtomKind.TheVariants.{Ord, Op, Bin, Rel, Open, Inner, Accent}
 use Rattle.tx_mlist.specs.declared.kinds.Delimiter.{Delimiter}
-use Rattle.tx_mlist.specs.declared.kinds.FractionHead.{FractionHead}
 use Rattle.tx_mlist.specs.declared.kinds.Limits.TheVariants.{Displayed, Always}
 use Rattle.tx_mlist.specs.declared.kinds.MathCharacter.{MathCharacter}
 use Rattle.tx_mlist.specs.declared.kinds.Place.TheVariants.{Nucleus, Superscript, Subscript}
 use Rattle.tx_mlist.specs.declared.plain.PlainNoad.TheVariants.{Left, Right}
-use Rattle.tx_mlist.specs.Building.{letter_of, delimiter_of, kind_of, bare, for_script, is_second, filled, limited, ends_with_operator, finished, part_of_group, grouped, delimited}
+use Rattle.tx_mlist.specs.Building.{letter_of, delimiter_of, plain_head, kind_of, bare, for_script, is_second, filled, limited, ends_with_operator, finished, part_of_group, grouped, delimited}
 use Rattle.tx_mlist.specs.Items.{MathItem, atom, fraction, small, empty, letter, formula, nothing, followed}
 
 abbrev character : ℕ → ℕ → MathCharacter
@@ -73,9 +72,6 @@ limits_of_ord = refl
 -- $x\over x$ is a fraction, $x\atop$ too; $x$ is none
 abbrev no_delimiter : Delimiter
 no_delimiter = record { small = character 0 0; large = character 0 0 }
-
-abbrev plain_head : Option ℤ → FractionHead
-plain_head thickness = record { thickness = thickness; left = no_delimiter; right = no_delimiter }
 
 over_x : finished (Some (record { head = plain_head None; numerator = x ∷ [] })) (x ∷ []) ≡ Ok (fraction (plain_head None) (followed x nothing) (followed x nothing) ∷ [])
 over_x = refl

@@ -7,6 +7,7 @@ use Rattle.tx_mlist.specs.declared.error.MlistError.TheVariants.{TooDeep}
 use Rattle.tx_mlist.specs.declared.kinds.AtomKind.{AtomKind}
 use Rattle.tx_mlist.specs.declared.kinds.AtomKind.TheVariants.{Ord, Op, Bin, Rel, Open, Close, Punct, Inner, Over, Under, Center, Radical, Accent}
 use Rattle.tx_mlist.specs.declared.kinds.Delimiter.{Delimiter}
+use Rattle.tx_mlist.specs.declared.kinds.FractionHead.{FractionHead}
 use Rattle.tx_mlist.specs.declared.kinds.Limits.{Limits}
 use Rattle.tx_mlist.specs.declared.kinds.Limits.TheVariants.{Displayed}
 use Rattle.tx_mlist.specs.declared.kinds.MathCharacter.{MathCharacter}
@@ -33,6 +34,10 @@ character_by family code = record { family = family % 16; code = code % 256 }
 
 abbrev pub delimiter_of : ℕ → Delimiter
 delimiter_of number = record { small = character_by (number / 1048576) (number / 4096); large = character_by (number / 256) number }
+
+-- a fraction beside its lists whose line is so thick, and which has no delimiters (section 1182)
+abbrev pub plain_head : Option ℤ → FractionHead
+plain_head thickness = record { thickness = thickness; left = delimiter_of 0; right = delimiter_of 0 }
 
 -- the kind of the atom of a class; one of class 7 is an Ord (section 1155)
 abbrev pub kind_of : ℕ → AtomKind

@@ -6,7 +6,7 @@ ghost use Rattle.tx_mlist.specs.declared.error.MlistError.TheVariants.{OutOfMemo
 
 use crate::above::Above;
 use crate::error::MlistError;
-use crate::kinds::{AtomKind, Delimiter, Limits, MathCharacter, Place};
+use crate::kinds::{AtomKind, Delimiter, FractionHead, Limits, MathCharacter, Place};
 use crate::mlist::Mlist;
 use crate::noad::{Atom, Field, Fraction, Noad};
 use crate::plain::PlainNoad;
@@ -46,6 +46,17 @@ pub fn delimiter_of(number: u32) -> Delimiter
     Delimiter {
         small: character_by(number / 1_048_576, number / 4096),
         large: character_by(number / 256, number),
+    }
+}
+
+/// A fraction beside its lists whose line is so thick, in sp, None where the fonts tell it, and which has no delimiters.
+pub fn plain_head(thickness: Option<i32>) -> FractionHead
+    ensures { result ≡ spec.plain_head thickness }
+{
+    FractionHead {
+        thickness,
+        left: delimiter_of(0),
+        right: delimiter_of(0),
     }
 }
 

@@ -20,7 +20,7 @@ mod plain;
 mod same;
 
 pub use above::Above;
-pub use building::{bare, delimiter_of, kind_of, letter_of};
+pub use building::{bare, delimiter_of, kind_of, letter_of, plain_head};
 pub use choices::no_choice;
 pub use error::MlistError;
 pub use kinds::{AtomKind, Delimiter, FractionHead, Limits, MathCharacter, Place};
