@@ -2,6 +2,5 @@ pub mod Along
 pub mod Steps
 pub mod Copies
 pub mod Naturals
-pub mod Products
 pub mod Lettered
 mod Worked

@@ -1,5 +1,5 @@
 -- The definitions at characters of a small font, worked by hand (TeX: The Program, sections 706 to 714 and 740).
-use Rattle.std.proofs.Common.{◌≡◌, ℕ, ℤ, pos, negsuc, Bool, true, false, List, [], ◌∷◌, Some, None, Result, Ok, Err, refl}
+use Rattle.std.proofs.Common.{◌≡◌, ℕ, ℤ, pos, Bool, true, false, List, [], ◌∷◌, Some, None, Result, Ok, Err, refl}
 use Rattle.tx_node.specs.declared.head.Direction.TheVariants.{Horizontal, Vertical}
 use Rattle.tx_node.specs.declared.plain.Plain.TheVariants.{Character}
 use Rattle.tx_node.specs.Items.{Item, PackedBox, plain, box_item}
@@ -9,13 +9,11 @@ use Rattle.tx_tfm.specs.Scaling.{scaled}
 use Rattle.tx_delim.specs.declared.error.DelimError.{DelimError}
 use Rattle.tx_delim.specs.declared.error.DelimError.TheVariants.{SizeOutOfRange}
 use Rattle.tx_delim.specs.declared.search.Search.{Search}
-use Rattle.tx_delim.specs.declared.slanted.Slanted.{Slanted}
 use Rattle.tx_delim.specs.Boxes.{empty_box, head_of, sized_box}
 use Rattle.tx_delim.specs.Delimiters.{delimiter_box}
 use Rattle.tx_delim.specs.Fitting.{fitting, fitting_within}
 use Rattle.tx_delim.specs.Searching.{along, beginning, recipe_in, searched}
 use Rattle.tx_delim.specs.Stacking.{least_steps, least_tallness, repeats, stack_box, stack_depth, stack_list, stack_of, stack_tallness, step_tallness, upper_part}
-use Rattle.tx_delim.specs.Slants.{accent_offset, exact_offset, offset}
 use Rattle.tx_delim.proofs.Lettered.{fonts, pt}
 
 abbrev found : ℕ → ℤ → Bool → Search
@@ -147,20 +145,3 @@ accent-k = refl
 accent-i : fitting fonts (pt 4) 1 105 ≡ 105
 unfolding word_at scaled along fitting_within sized_box least_tallness step_tallness least_steps stack_tallness stack_depth upper_part stack_list stack_of
 accent-i = refl
-
--- an accent 5pt wide above an upright character 8pt wide begins 1.5pt to the right of it; above one 7.5pt high, 1sp narrower, and
--- slanted by a quarter, 1.875pt further, and half an sp less is rounded away from zero; a wider accent begins to the left
-abbrev slanted : ℤ → ℤ → ℤ → Slanted
-slanted width height slant = record { width = width; height = height; slant = slant }
-
-upright : accent_offset (slanted (pt 5) (pt 4) (pos 0)) (slanted (pt 8) (pt 7) (pos 0)) ≡ Ok (pos 98304)
-unfolding offset exact_offset
-upright = refl
-
-slanting : accent_offset (slanted (pt 5) (pt 4) (pos 0)) (slanted (pos 524287) (pos 491520) (pos 16384)) ≡ Ok (pos 221184)
-unfolding offset exact_offset
-slanting = refl
-
-to-the-left : accent_offset (slanted (pt 8) (pt 4) (pos 0)) (slanted (pos 327681) (pt 7) (pos 0)) ≡ Ok (negsuc 98303)
-unfolding offset exact_offset
-to-the-left = refl

@@ -4,4 +4,3 @@ pub mod Fitting
 pub mod Boxes
 pub mod Stacking
 pub mod Delimiters
-pub mod Slants

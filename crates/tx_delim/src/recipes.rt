@@ -95,7 +95,7 @@ pub(crate) fn repeats_of(fonts: &Fonts, font: u8, recipe: Word, asked: i64) -> u
 }
 
 /// A product of two numbers.
-pub(crate) fn product(a: i64, b: i64) -> i128
+fn product(a: i64, b: i64) -> i128
     ensures value { result ≡ a *ℤ b }
     ensures size { unsigned_abs result ≡ unsigned_abs a * unsigned_abs b }
 {
