@@ -9,25 +9,31 @@ use Rattle.tx_delim.specs.Fitting.{fitting_within, next_fitting}
 use Rattle.tx_delim.specs.Searching.{along, looked_at, next_in}
 
 -- a character that is there is looked at, and the search goes on behind it
-pub along_on : (n : ℕ) (fonts : List FontState) (asked : ℤ) (font code : ℕ) (at : Option ℕ) (s s' : Search) → 0 < n
-    → has_character fonts font code ≡ true → s' ≡ looked_at fonts asked font code s → at ≡ next_in fonts font code s'
-    → along n fonts asked font (Some code) s ≡ along (n - 1) fonts asked font at s'
+pub along_on : (n : ℕ) (fonts : List FontState) (asked : ℤ) (font code : ℕ) (at at' : Option ℕ) (s s' : Search) → 0 < n → at ≡ Some code
+    → has_character fonts font code ≡ true → s' ≡ looked_at fonts asked font code s → at' ≡ next_in fonts font code s'
+    → along n fonts asked font at s ≡ along (n - 1) fonts asked font at' s'
 unfolding along
-along_on zero fonts asked font code at s s' h there s_is at_is = absurd (omega arith)
-along_on (suc n) fonts asked font code at s s' h there s_is at_is =
+along_on zero fonts asked font code at at' s s' h is there s_is at_is = absurd (omega arith)
+along_on (suc n) fonts asked font code at at' s s' h is there s_is at_is =
     let one_less : n ≡ suc n - 1 = omega arith in
-    ap (λ (t : Bool). if t then along n fonts asked font (next_in fonts font code (looked_at fonts asked font code s)) (looked_at fonts asked font code s) else s) there
+    ap (λ (a : Option ℕ). along (suc n) fonts asked font a s) is
+    ∙ ap (λ (t : Bool). if t then along n fonts asked font (next_in fonts font code (looked_at fonts asked font code s)) (looked_at fonts asked font code s) else s) there
     ∙ ap (λ (x : Search). along n fonts asked font (next_in fonts font code x) x) (sym s_is)
     ∙ ap (λ (a : Option ℕ). along n fonts asked font a s') (sym at_is)
-    ∙ ap (λ (k : ℕ). along k fonts asked font at s') one_less
+    ∙ ap (λ (k : ℕ). along k fonts asked font at' s') one_less
 
 -- it ends where the font lacks the character, where there is none, and where no more are looked at
-pub along_gone : (n : ℕ) (fonts : List FontState) (asked : ℤ) (font code : ℕ) (s : Search) → has_character fonts font code ≡ false
+gone_at : (n : ℕ) (fonts : List FontState) (asked : ℤ) (font code : ℕ) (s : Search) → has_character fonts font code ≡ false
     → along n fonts asked font (Some code) s ≡ s
 unfolding along
-along_gone zero fonts asked font code s gone = refl
-along_gone (suc n) fonts asked font code s gone =
+gone_at zero fonts asked font code s gone = refl
+gone_at (suc n) fonts asked font code s gone =
     ap (λ (t : Bool). if t then along n fonts asked font (next_in fonts font code (looked_at fonts asked font code s)) (looked_at fonts asked font code s) else s) gone
+
+pub along_gone : (n : ℕ) (fonts : List FontState) (asked : ℤ) (font code : ℕ) (at : Option ℕ) (s : Search) → at ≡ Some code
+    → has_character fonts font code ≡ false → along n fonts asked font at s ≡ s
+along_gone n fonts asked font code at s is gone =
+    ap (λ (a : Option ℕ). along n fonts asked font a s) is ∙ gone_at n fonts asked font code s gone
 
 pub along_none : (n : ℕ) (fonts : List FontState) (asked : ℤ) (font : ℕ) (at : Option ℕ) (s : Search) → at ≡ None → along n fonts asked font at s ≡ s
 unfolding along
