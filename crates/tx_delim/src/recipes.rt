@@ -1,5 +1,5 @@
 //! How often a recipe's piece is repeated, and how tall the stack is then (TeX: The Program, section 714).
-ghost use Rattle.std.specs.Prelude.{◌≡◌, ◌≤◌, ◌+◌, ◌-◌, ◌*◌, ◌/◌, ◌^◌, ◌*ℤ◌, pos, unsigned_abs};
+ghost use Rattle.std.specs.Prelude.{◌≡◌, ◌≤◌, ◌+◌, ◌-◌, ◌*◌, ◌/◌, ◌^◌, ◌-ℤ◌, ◌*ℤ◌, pos, unsigned_abs};
 ghost use Rattle.tx_delim.specs.Stacking as spec;
 
 use crate::finding::tallness;
@@ -82,6 +82,15 @@ fn least_steps(step: i64, lacking: i64) -> u64
     }
 }
 
+/// How much the pieces that aren't repeated lack of what is asked, in sp.
+fn lacking_of(fonts: &Fonts, font: u8, recipe: Word, asked: i64) -> i64
+    requires { unsigned_abs asked ≤ 2 ^ 59 }
+    ensures value { result ≡ asked -ℤ spec.least_tallness fonts.now font recipe }
+    ensures bound { unsigned_abs result ≤ 2 ^ 60 }
+{
+    asked - least_tallness(fonts, font, recipe)
+}
+
 /// How often the repeated piece stands on each side, so that the stack is as tall as is asked, in sp.
 pub(crate) fn repeats_of(fonts: &Fonts, font: u8, recipe: Word, asked: i64) -> u64
     requires { unsigned_abs asked ≤ 2 ^ 59 }
@@ -90,7 +99,7 @@ pub(crate) fn repeats_of(fonts: &Fonts, font: u8, recipe: Word, asked: i64) -> u
     ensures size { result * unsigned_abs (spec.step_tallness fonts.now font recipe) ≤ 2 ^ 61 }
 {
     let step = step_tallness(fonts, font, recipe);
-    let lacking = asked - least_tallness(fonts, font, recipe);
+    let lacking = lacking_of(fonts, font, recipe, asked);
     least_steps(step, lacking)
 }
 
