@@ -7,7 +7,7 @@ use Rattle.tx_command.specs.declared.types.Head.TheVariants.{Opening, Part}
 use Rattle.tx_mlist.specs.declared.above.Above.{Above}
 use Rattle.tx_mlist.specs.declared.error.MlistError.{MlistError}
 use Rattle.tx_mlist.specs.declared.kinds.Limits.{Limits}
-use Rattle.tx_mlist.specs.Building.{bare, ends_with_operator, for_script, inner, is_second, limited}
+use Rattle.tx_mlist.specs.Building.{bare, ends_with_operator, for_script, inner, is_second, limited, plain_head}
 use Rattle.tx_mlist.specs.Choices.{no_choice}
 use Rattle.tx_mlist.specs.Items.{MathItem}
 use Rattle.tx_prim.specs.declared.family.AtomClass.{AtomClass}
@@ -52,7 +52,7 @@ beginning_choice s = leaves (record (noad_added s no_choice) { head = Opening (C
 -- \over and its kin: all that the formula has stands above the line of a fraction, unless it has one already (sections 1181 to 1183)
 abbrev pub lined : Option ℤ → Result (List MathItem) MlistError → Result OpenFormula TexError
 lined thickness (Err error) = Err (list_error error)
-lined thickness (Ok list) = Ok (record { noads = []; above = Some (record { thickness = thickness; numerator = list }) })
+lined thickness (Ok list) = Ok (record { noads = []; above = Some (record { head = plain_head thickness; numerator = list }) })
 
 abbrev pub divided_by : Option ℤ → List MathItem → Option Above → Result OpenFormula TexError
 divided_by thickness noads (Some above) = Err BadFormula

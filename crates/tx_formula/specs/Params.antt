@@ -5,11 +5,11 @@ use Rattle.tx_eqtb.specs.declared.table.Table.{Table}
 use Rattle.tx_eqtb.specs.Table.{glue_at, number_at}
 use Rattle.tx_math.specs.declared.params.FamilyFonts.{FamilyFonts}
 use Rattle.tx_math.specs.declared.params.MathParams.{MathParams}
-use Rattle.tx_prim.specs.declared.dimension.DimensionParameter.TheVariants.{Nulldelimiterspace, Scriptspace}
+use Rattle.tx_prim.specs.declared.dimension.DimensionParameter.TheVariants.{Delimitershortfall, Nulldelimiterspace, Scriptspace}
 use Rattle.tx_prim.specs.declared.family.MathSize.{MathSize}
 use Rattle.tx_prim.specs.declared.family.MathSize.TheVariants.{Text, Script, ScriptScript}
 use Rattle.tx_prim.specs.declared.glue.GlueParameter.TheVariants.{Medmuskip, Thickmuskip, Thinmuskip}
-use Rattle.tx_prim.specs.declared.integer.IntegerParameter.TheVariants.{Binoppenalty, Relpenalty}
+use Rattle.tx_prim.specs.declared.integer.IntegerParameter.TheVariants.{Binoppenalty, Delimiterfactor, Relpenalty}
 use Rattle.tx_scan.specs.Integers.{byte_of}
 use Rattle.tx_seen.specs.declared.place.Place.TheVariants.{Dimension, Family, Glue, Integer}
 
@@ -34,6 +34,8 @@ math_params table = record {
   med_mu_skip = glue_at table (Glue Medmuskip);
   thick_mu_skip = glue_at table (Glue Thickmuskip);
   null_delimiter_space = number_at table (Dimension Nulldelimiterspace);
+  delimiter_factor = number_at table (Integer Delimiterfactor);
+  delimiter_shortfall = number_at table (Dimension Delimitershortfall);
   script_space = number_at table (Dimension Scriptspace);
   bin_op_penalty = number_at table (Integer Binoppenalty);
   rel_penalty = number_at table (Integer Relpenalty);

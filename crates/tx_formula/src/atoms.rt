@@ -14,7 +14,7 @@ use tx_box::{OpenFormula, append_noad, settle};
 use tx_command::Head;
 use tx_event::Event;
 use tx_list::Stack;
-use tx_mlist::{Above, Mlist, bare, no_choice};
+use tx_mlist::{Above, Mlist, bare, no_choice, plain_head};
 use tx_prim::{AtomClass, AtomPart, LimitsKind, MathStyle};
 use tx_seen::TexError;
 use tx_shape::Opener;
@@ -91,7 +91,7 @@ fn divided(
             Ok(OpenFormula {
                 noads: Mlist::new(alloc),
                 above: Some(Above {
-                    thickness,
+                    head: plain_head(thickness),
                     numerator,
                 }),
             })

@@ -64,6 +64,8 @@ pub(crate) fn math_params(table: &Eqtb) -> MathParams
         med_mu_skip: table.glue_parameter(GlueParameter::Medmuskip),
         thick_mu_skip: table.glue_parameter(GlueParameter::Thickmuskip),
         null_delimiter_space: table.dimension(DimensionParameter::Nulldelimiterspace),
+        delimiter_factor: table.integer(IntegerParameter::Delimiterfactor),
+        delimiter_shortfall: table.dimension(DimensionParameter::Delimitershortfall),
         script_space: table.dimension(DimensionParameter::Scriptspace),
         bin_op_penalty: table.integer(IntegerParameter::Binoppenalty),
         rel_penalty: table.integer(IntegerParameter::Relpenalty),

@@ -45,3 +45,11 @@ quotient_small (negsuc a) (negsuc b) = div-le_self (suc a) (suc b)
 pub points_small : (x : ℤ) → unsigned_abs x ≤ 2 ^ 31 → unsigned_abs (int_div_euclid x (pos 65536)) ≤ 2 ^ 16
 points_small (pos a) h = omega arith
 points_small (negsuc a) h = omega arith
+
+-- a size by 500
+part_of_small : (a : ℕ) → a ≤ 2 ^ 33 → a / 500 ≤ 2 ^ 25
+part_of_small a h = omega (arith, h)
+
+pub part_small : (x : ℤ) → unsigned_abs x ≤ 2 ^ 33 → unsigned_abs (int_div x (pos 500)) ≤ 2 ^ 25
+part_small (pos a) h = part_of_small a h
+part_small (negsuc a) h = negated_small (suc a / 500) (2 ^ 25) (part_of_small (suc a) h)

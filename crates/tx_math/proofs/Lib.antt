@@ -6,3 +6,4 @@ pub mod Chosen
 pub mod Loops
 pub mod Telling
 mod Worked
+mod WorkedSigns

@@ -4,6 +4,7 @@ use Rattle.std.proofs.lemmas.List.{at_drop_all}
 use Rattle.tx_node.specs.Items.{Item}
 use Rattle.tx_math.specs.declared.entry.Entry.{Entry as EntryFields}
 use Rattle.tx_math.specs.declared.error.MathError.{MathError}
+use Rattle.tx_math.specs.declared.piece.Fences.{Fences}
 use Rattle.tx_math.specs.declared.piece.Spaces.{Spaces}
 use Rattle.tx_math.specs.Boxes.{with_more}
 use Rattle.tx_math.specs.Classes.{kind_before}
@@ -77,17 +78,17 @@ joined list list' (Ok items) (Ok behind) h =
     let is : list ++ items ≡ list' = cc in
     ap (λ (l : List Item). Ok l) (sym (append_assoc list items behind)) ∙ ap (λ (l : List Item). Ok (l ++ behind)) is
 
-pub spaced_more : (m : Math) (penalties : Bool) (spaces : Spaces) (piece : Piece) (rest : List Piece) (list list' : List Item)
-    → with_more list (piece_items m penalties spaces piece rest) ≡ Ok list'
-    → with_more list (spaced m penalties spaces (piece ∷ rest)) ≡ with_more list' (spaced m penalties (spaces_after spaces piece) rest)
-spaced_more m penalties spaces piece rest list list' made =
-    joined list list' (piece_items m penalties spaces piece rest) (spaced m penalties (spaces_after spaces piece) rest) made
+pub spaced_more : (m : Math) (penalties : Bool) (fences : Fences) (spaces : Spaces) (piece : Piece) (rest : List Piece) (list list' : List Item)
+    → with_more list (piece_items m penalties fences spaces piece rest) ≡ Ok list'
+    → with_more list (spaced m penalties fences spaces (piece ∷ rest)) ≡ with_more list' (spaced m penalties fences (spaces_after spaces piece) rest)
+spaced_more m penalties fences spaces piece rest list list' made =
+    joined list list' (piece_items m penalties fences spaces piece rest) (spaced m penalties fences (spaces_after spaces piece) rest) made
 
-pub spaced_stopped : (m : Math) (penalties : Bool) (spaces : Spaces) (piece : Piece) (rest : List Piece) (list : List Item) (error : MathError)
-    → piece_items m penalties spaces piece rest ≡ Err error → with_more list (spaced m penalties spaces (piece ∷ rest)) ≡ Err error
-spaced_stopped m penalties spaces piece rest list error made =
+pub spaced_stopped : (m : Math) (penalties : Bool) (fences : Fences) (spaces : Spaces) (piece : Piece) (rest : List Piece) (list : List Item) (error : MathError)
+    → piece_items m penalties fences spaces piece rest ≡ Err error → with_more list (spaced m penalties fences spaces (piece ∷ rest)) ≡ Err error
+spaced_stopped m penalties fences spaces piece rest list error made =
     ap (λ (first : Result (List Item) MathError).
-    with_more list (passed first (λ items. passed (spaced m penalties (spaces_after spaces piece) rest) (λ behind. Ok (items ++ behind))))) made
+    with_more list (passed first (λ items. passed (spaced m penalties fences (spaces_after spaces piece) rest) (λ behind. Ok (items ++ behind))))) made
 
-pub spaced_over : (m : Math) (penalties : Bool) (spaces : Spaces) (list : List Item) → with_more list (spaced m penalties spaces []) ≡ Ok list
-spaced_over m penalties spaces list = ap (λ (l : List Item). Ok l) (append-nil list)
+pub spaced_over : (m : Math) (penalties : Bool) (fences : Fences) (spaces : Spaces) (list : List Item) → with_more list (spaced m penalties fences spaces []) ≡ Ok list
+spaced_over m penalties fences spaces list = ap (λ (l : List Item). Ok l) (append-nil list)

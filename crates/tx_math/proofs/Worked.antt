@@ -17,10 +17,13 @@ use Rattle.tx_tfm.specs.Format.{tfm_of, word_at}
 use Rattle.tx_tfm.specs.LigKern.{boundary_code, boundary_start, character_start, command_of, found}
 use Rattle.tx_tfm.specs.Scaling.{scaled}
 use Rattle.tx_mlist.specs.declared.kinds.AtomKind.{AtomKind}
-use Rattle.tx_mlist.specs.declared.kinds.AtomKind.TheVariants.{Ord, Op, Bin, Rel}
+use Rattle.tx_mlist.specs.declared.kinds.AtomKind.TheVariants.{Ord, Op, Bin, Rel, Inner}
+use Rattle.tx_mlist.specs.declared.kinds.Delimiter.{Delimiter}
+use Rattle.tx_mlist.specs.declared.kinds.FractionHead.{FractionHead}
 use Rattle.tx_mlist.specs.declared.kinds.Limits.TheVariants.{Displayed}
 use Rattle.tx_mlist.specs.declared.plain.PlainNoad.TheVariants.{Style, Nonscript, Glue}
-use Rattle.tx_mlist.specs.Items.{MathItem, Part, atom, fraction, choice, small, empty, letter, nothing, gathered}
+use Rattle.tx_mlist.specs.Building.{between as fenced}
+use Rattle.tx_mlist.specs.Items.{MathItem, Part, atom, fraction, choice, small, empty, letter, formula, nothing, gathered}
 use Rattle.tx_math.specs.declared.error.MathError.{MathError}
 use Rattle.tx_math.specs.declared.error.MathError.TheVariants.{NoFont, FewParameters}
 use Rattle.tx_math.specs.declared.formula.Formula.{Formula}
@@ -30,7 +33,9 @@ use Rattle.tx_math.specs.Characters.{fetched_from}
 use Rattle.tx_math.specs.Composing.{composed, composed_within, most_steps, step}
 use Rattle.tx_math.specs.Entries.{entries_of}
 use Rattle.tx_math.specs.Formula.{limits_below, limits_list, scripted_operator, scripted, boxed_list, fetched_nucleus, cleaned, list_nucleus, script_of, script_box, with_scripts, remade_nucleus, operator_by, limits_box, limited, unlimited, lined_up, fraction_items, converted, hlist, list_in, math_with}
-use Rattle.tx_math.specs.Fractions.{even_boxes, fraction_box, fraction_depth, fraction_height, fraction_list, fraction_of, list_by_line, space_above, space_below}
+use Rattle.tx_math.specs.Delimiters.{delimiter_item, sign_box, sign_of}
+use Rattle.tx_math.specs.Fences.{fences_of}
+use Rattle.tx_math.specs.Fractions.{between_delimiters, even_boxes, fraction_box, fraction_depth, fraction_height, fraction_list, fraction_of, list_by_line, space_above, space_below}
 use Rattle.tx_math.specs.Mu.{elastic_in_points, fitting, glue_in_points, math_glue, math_kern, times_mu}
 use Rattle.tx_math.specs.Operators.{above_operator, below_operator, evened, limited_depth, limited_height, limits_of, lower_from, lower_limit, moved_left, moved_right, reach_of, upper_from, upper_limit, widest}
 use Rattle.tx_math.specs.Scripts.{above_bottom, below_top, first_lowered, first_raised, gap, script_shifts, scripts_item, stack_box, stack_list, stacked, subscript_item, superscript_item}
@@ -64,6 +69,8 @@ params = record {
   thin_mu_skip = mus 2;
   med_mu_skip = mus 4;
   thick_mu_skip = mus 5;
+  delimiter_factor = pos 0;
+  delimiter_shortfall = pos 0;
   null_delimiter_space = pos 0;
   script_space = pos 0;
   bin_op_penalty = pos 700;
@@ -202,9 +209,23 @@ quotient = vbox_of (pos 327680) (pos 245760) (pos 81920) (box_item (pos 0) box_b
 abbrev between : PackedBox
 between = hbox_of (pos 327680) (pos 245760) (pos 81920) (side ∷ box_item (pos 0) quotient ∷ side ∷ [])
 
-one-fraction : set_in 2 (fraction None (gathered (alone Ord b ∷ [])) (gathered (alone Ord b ∷ [])) ∷ []) ≡ gives (box_item (pos 0) between ∷ [])
-unfolding word_at scaled command_of boundary_start boundary_code character_start found converted list_in entries_of composed composed_within most_steps step cleaned_list packed_box reboxed fraction_of framed times_mu math_glue math_kern fetched_from subscript_item superscript_item even_boxes fraction_list fraction_box evened upper_limit lower_limit fetched_nucleus cleaned list_nucleus script_of script_box with_scripts remade_nucleus operator_by limits_box limited unlimited lined_up fraction_items first_lowered below_top first_raised above_bottom space_above space_below elastic_in_points glue_in_points fitting gap stacked stack_box shifted set_to centred centred_to above_operator below_operator widest reach_of limited_height limited_depth fraction_height fraction_depth limits_list scripted_operator scripted boxed_list stack_list moved_left moved_right upper_from lower_from script_shifts list_by_line limits_below
+abbrev no_delimiter : Delimiter
+no_delimiter = record { small = record { family = 0; code = 0 }; large = record { family = 0; code = 0 } }
+
+abbrev over : FractionHead
+over = record { thickness = None; left = no_delimiter; right = no_delimiter }
+
+one-fraction : set_in 2 (fraction over (gathered (alone Ord b ∷ [])) (gathered (alone Ord b ∷ [])) ∷ []) ≡ gives (box_item (pos 0) between ∷ [])
+unfolding word_at scaled command_of boundary_start boundary_code character_start found converted list_in entries_of composed composed_within most_steps step cleaned_list packed_box reboxed fraction_of between_delimiters delimiter_item sign_of sign_box framed times_mu math_glue math_kern fetched_from subscript_item superscript_item even_boxes fraction_list fraction_box evened upper_limit lower_limit fetched_nucleus cleaned list_nucleus script_of script_box with_scripts remade_nucleus operator_by limits_box limited unlimited lined_up fraction_items first_lowered below_top first_raised above_bottom space_above space_below elastic_in_points glue_in_points fitting gap stacked stack_box shifted set_to centred centred_to above_operator below_operator widest reach_of limited_height limited_depth fraction_height fraction_depth limits_list scripted_operator scripted boxed_list stack_list moved_left moved_right upper_from lower_from script_shifts list_by_line limits_below
 one-fraction = refl
+
+-- $\left.b\right.$: 5pt wide, since no delimiter has a width; it is an Inner
+abbrev enclosed : PackedBox
+enclosed = hbox_of (pos 327680) (pos 163840) (pos 0) (side ∷ character 98 ∷ side ∷ [])
+
+left-right : set_in 2 (atom Inner (formula (gathered (fenced no_delimiter no_delimiter (alone Ord b ∷ [])))) empty empty ∷ []) ≡ gives (box_item (pos 0) enclosed ∷ [])
+unfolding word_at scaled command_of boundary_start boundary_code character_start found converted list_in entries_of composed composed_within most_steps step cleaned_list packed_box reboxed fraction_of fences_of between_delimiters delimiter_item sign_of sign_box framed times_mu math_glue math_kern fetched_from subscript_item superscript_item even_boxes fraction_list fraction_box evened upper_limit lower_limit fetched_nucleus cleaned list_nucleus script_of script_box with_scripts remade_nucleus operator_by limits_box limited unlimited lined_up fraction_items first_lowered below_top first_raised above_bottom space_above space_below elastic_in_points glue_in_points fitting gap stacked stack_box shifted set_to centred centred_to above_operator below_operator widest reach_of limited_height limited_depth fraction_height fraction_depth limits_list scripted_operator scripted boxed_list stack_list moved_left moved_right upper_from lower_from script_shifts list_by_line limits_below
+left-right = refl
 
 -- in a paragraph a penalty stands behind an operation and a relation, but not at the end
 penalties : hlist (math_with fonts params) 2 true (alone Ord b ∷ alone Bin b ∷ alone Ord b ∷ alone Rel b ∷ [])

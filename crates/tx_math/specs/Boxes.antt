@@ -18,6 +18,8 @@ use Rattle.tx_pack.specs.declared.types.PackError.TheVariants as packing
 use Rattle.tx_pack.specs.Packing.{hpacked, vpacked}
 use Rattle.tx_pack.specs.Stretching.{is_nothing}
 use Rattle.tx_num.specs.Limits.{fits}
+use Rattle.tx_delim.specs.declared.error.DelimError.{DelimError}
+use Rattle.tx_delim.specs.declared.error.DelimError.TheVariants as drawing
 use Rattle.tx_math.specs.declared.error.MathError.{MathError}
 use Rattle.tx_math.specs.declared.error.MathError.TheVariants.{SizeOutOfRange, TooDeep, OutOfMemory}
 use Rattle.tx_math.specs.Outcomes.{Telling, checked, passed, and_then}
@@ -40,6 +42,16 @@ of_packing packing.SizeOutOfRange = SizeOutOfRange
 of_packing packing.TooDeep = TooDeep
 of_packing packing.OutOfMemory = OutOfMemory
 
+-- and those of drawing delimiters
+abbrev pub of_drawing : DelimError → MathError
+of_drawing drawing.SizeOutOfRange = SizeOutOfRange
+of_drawing drawing.TooDeep = TooDeep
+of_drawing drawing.OutOfMemory = OutOfMemory
+
+abbrev pub drawn : Result PackedBox DelimError → Result PackedBox MathError
+drawn (Err e) = Err (of_drawing e)
+drawn (Ok b) = Ok b
+
 -- a box of natural size, of which nothing is ever reported
 abbrev pub unreported : Result Packed PackError → Result PackedBox MathError
 unreported (Err e) = Err (of_packing e)
@@ -55,10 +67,6 @@ vbox m list = unreported (vpacked list Natural (pos (2 ^ 30 - 1)) m.params.packi
 abbrev pub reported : Result Packed PackError → List ℕ → Result (PackedBox × List ℕ) MathError
 reported (Err e) told = Err (of_packing e)
 reported (Ok made) told = Ok (made.node, told ++ made.report)
-
--- a horizontal box without a list that is so wide, as var_delimiter makes it (section 706)
-abbrev pub empty_box : ℤ → PackedBox
-empty_box width = record { head = record { direction = Horizontal; width = width; height = pos 0; depth = pos 0; setting = setting.Natural }; list = [] }
 
 -- a vertical box whose sizes aren't those that its list asks for (sections 747 and 750)
 abbrev pub vertical_head : ℤ → ℤ → ℤ → BoxHead

@@ -1,7 +1,7 @@
 -- Each Bin that becomes an Ord by what stands behind it (The TeXbook, appendix G, rule 6; TeX: The Program, sections 728 and 729).
 use Rattle.std.specs.Prelude.{Bool, true, false, ◌&&◌, List, [], ◌∷◌, if◌then◌else◌}
 use Rattle.tx_mlist.specs.declared.kinds.AtomKind.{AtomKind}
-use Rattle.tx_mlist.specs.declared.kinds.AtomKind.TheVariants.{Ord, Op, Bin, Rel, Open, Close, Punct, Inner, Over, Under, Center}
+use Rattle.tx_mlist.specs.declared.kinds.AtomKind.TheVariants.{Ord, Op, Bin, Rel, Open, Close, Punct, Inner, Over, Under, Center, Radical, Accent}
 use Rattle.tx_math.specs.Composing.{is_bin}
 use Rattle.tx_math.specs.Entries.{Entry, is_noad}
 
@@ -18,6 +18,8 @@ lacks_operand Inner = false
 lacks_operand Over = false
 lacks_operand Under = false
 lacks_operand Center = false
+lacks_operand (Radical sign) = false
+lacks_operand (Accent c) = false
 
 -- whether the first atom of these, or their end, is such
 abbrev pub ends_operands : List Entry → Bool

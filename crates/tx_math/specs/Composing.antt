@@ -10,7 +10,7 @@ use Rattle.tx_tfm.specs.LigKern.{command_of}
 use Rattle.tx_tfm.specs.Metrics.{kern_of}
 use Rattle.tx_ligkern.specs.Composing.{keeps_current, keeps_next, passes}
 use Rattle.tx_mlist.specs.declared.kinds.AtomKind.{AtomKind}
-use Rattle.tx_mlist.specs.declared.kinds.AtomKind.TheVariants.{Ord, Op, Bin, Rel, Open, Close, Punct, Inner, Over, Under, Center}
+use Rattle.tx_mlist.specs.declared.kinds.AtomKind.TheVariants.{Ord, Op, Bin, Rel, Open, Close, Punct, Inner, Over, Under, Center, Radical, Accent}
 use Rattle.tx_mlist.specs.declared.kinds.Limits.TheVariants.{Displayed}
 use Rattle.tx_mlist.specs.declared.kinds.MathCharacter.{MathCharacter}
 use Rattle.tx_mlist.specs.Building.{is_empty, is_ord}
@@ -33,6 +33,8 @@ is_bin Inner = false
 is_bin Over = false
 is_bin Under = false
 is_bin Center = false
+is_bin (Radical sign) = false
+is_bin (Accent c) = false
 
 abbrev pub awaits_operand : AtomKind → Bool
 awaits_operand Ord = false
@@ -46,6 +48,8 @@ awaits_operand Inner = false
 awaits_operand Over = false
 awaits_operand Under = false
 awaits_operand Center = false
+awaits_operand (Radical sign) = false
+awaits_operand (Accent c) = false
 
 -- a Bin becomes an Ord behind such an atom
 abbrev pub behind_atom : AtomKind → Entry → Entry
@@ -68,6 +72,8 @@ may_follow Inner = false
 may_follow Over = false
 may_follow Under = false
 may_follow Center = false
+may_follow (Radical sign) = false
+may_follow (Accent c) = false
 
 -- the character that a part is; and that of an atom's nucleus, whether it has scripts or not, and where it has none
 abbrev pub part_letter : Part → Option MathCharacter
@@ -78,14 +84,14 @@ part_letter (formula items) = None
 
 abbrev pub item_letter : MathItem → Option MathCharacter
 item_letter (atom kind nucleus superscript subscript) = part_letter nucleus
-item_letter (fraction thickness above below) = None
+item_letter (fraction head above below) = None
 item_letter (choice display text script script_script) = None
 item_letter (small s) = None
 item_letter (material i) = None
 
 abbrev pub lone_letter : MathItem → Option MathCharacter
 lone_letter (atom kind nucleus superscript subscript) = if is_empty superscript && is_empty subscript then part_letter nucleus else None
-lone_letter (fraction thickness above below) = None
+lone_letter (fraction head above below) = None
 lone_letter (choice display text script script_script) = None
 lone_letter (small s) = None
 lone_letter (material i) = None
@@ -119,14 +125,14 @@ kern_in fonts font w = option_map_or (λ (f : NamedFont). kern_of f.font w) (fon
 -- the scripts of an item, where it is an atom
 abbrev pub superscript_of : MathItem → Part
 superscript_of (atom kind nucleus superscript subscript) = superscript
-superscript_of (fraction thickness above below) = empty
+superscript_of (fraction head above below) = empty
 superscript_of (choice display text script script_script) = empty
 superscript_of (small s) = empty
 superscript_of (material i) = empty
 
 abbrev pub subscript_of : MathItem → Part
 subscript_of (atom kind nucleus superscript subscript) = subscript
-subscript_of (fraction thickness above below) = empty
+subscript_of (fraction head above below) = empty
 subscript_of (choice display text script script_script) = empty
 subscript_of (small s) = empty
 subscript_of (material i) = empty

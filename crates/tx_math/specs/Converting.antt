@@ -5,10 +5,10 @@ use Rattle.tx_mlist.specs.declared.kinds.AtomKind.{AtomKind}
 use Rattle.tx_mlist.specs.Noads.{math_of}
 use Rattle.tx_math.specs.declared.entry.Entry.{Entry as EntryFields}
 use Rattle.tx_math.specs.declared.piece.Piece.{Piece as PieceFields}
-use Rattle.tx_math.specs.declared.piece.Piece.TheVariants.{Noad, Restyled, Lone}
+use Rattle.tx_math.specs.declared.piece.Piece.TheVariants.{Noad, Fence, Restyled, Lone}
 use Rattle.tx_math.specs.Composing.{Stepped}
 use Rattle.tx_math.specs.Entries.{Entry}
-use Rattle.tx_math.specs.Spacing.{Piece, noad, restyled, lone}
+use Rattle.tx_math.specs.Spacing.{Piece, noad, fence, restyled, lone}
 
 -- the entry that is kept with its noad
 abbrev pub entry_of : EntryFields → Entry
@@ -20,6 +20,7 @@ entries_in entries = map entry_of entries
 -- the piece that is kept with its nodes
 abbrev pub piece_in : PieceFields → Piece
 piece_in (Noad kind list) = noad kind list
+piece_in (Fence kind d) = fence kind d
 piece_in (Restyled style) = restyled style
 piece_in (Lone node) = lone (item_of node)
 

@@ -4,9 +4,9 @@ use Rattle.std.specs.Prelude.{ℕ, ◌/◌, ◌==◌, Bool, true, false, ◌&&�
 use Rattle.tx_node.specs.Items.{Item}
 use Rattle.tx_node.specs.Sizes.{glue_of_item}
 use Rattle.tx_mlist.specs.declared.kinds.AtomKind.{AtomKind}
-use Rattle.tx_mlist.specs.declared.kinds.AtomKind.TheVariants.{Ord}
+use Rattle.tx_mlist.specs.declared.kinds.AtomKind.TheVariants.{Ord, Open, Close}
 use Rattle.tx_mlist.specs.declared.plain.PlainNoad.{PlainNoad}
-use Rattle.tx_mlist.specs.declared.plain.PlainNoad.TheVariants.{Style, Nonscript, Glue, Kern}
+use Rattle.tx_mlist.specs.declared.plain.PlainNoad.TheVariants.{Style, Nonscript, Glue, Kern, Left, Right}
 use Rattle.tx_math.specs.Boxes.{is_plain, plain_is_kern}
 use Rattle.tx_mlist.specs.Items.{MathItem, MathItems, atom, fraction, choice, small, material, nothing, followed}
 
@@ -18,23 +18,40 @@ pub record Entry : Type 0 where
   pub joined : Bool
   pub item : MathItem
 
--- the kind of an item where a list is begun with; a fraction is an Ord (section 761), and what is no noad has none that counts
+-- the kind of an item where a list is begun with; a fraction is an Ord (section 761), \left an Open and \right a Close, and what is
+-- no noad has none that counts
+abbrev pub kind_of_small : PlainNoad → AtomKind
+kind_of_small (Style style) = Ord
+kind_of_small Nonscript = Ord
+kind_of_small (Glue g) = Ord
+kind_of_small (Kern size) = Ord
+kind_of_small (Left d) = Open
+kind_of_small (Right d) = Close
+
 abbrev pub kind_of_item : MathItem → AtomKind
 kind_of_item (atom kind nucleus superscript subscript) = kind
-kind_of_item (fraction thickness above below) = Ord
+kind_of_item (fraction head above below) = Ord
 kind_of_item (choice display text script script_script) = Ord
-kind_of_item (small s) = Ord
+kind_of_item (small s) = kind_of_small s
 kind_of_item (material i) = Ord
 
 abbrev pub entry_in : ℕ → MathItem → Entry
 entry_in style item = record { style = style; kind = kind_of_item item; joined = false; item = item }
 
--- whether it is an atom or a fraction
+-- whether it is an atom, a fraction, \left or \right
+abbrev pub small_is_noad : PlainNoad → Bool
+small_is_noad (Style style) = false
+small_is_noad Nonscript = false
+small_is_noad (Glue g) = false
+small_is_noad (Kern size) = false
+small_is_noad (Left d) = true
+small_is_noad (Right d) = true
+
 abbrev pub is_noad : MathItem → Bool
 is_noad (atom kind nucleus superscript subscript) = true
-is_noad (fraction thickness above below) = true
+is_noad (fraction head above below) = true
 is_noad (choice display text script script_script) = false
-is_noad (small s) = false
+is_noad (small s) = small_is_noad s
 is_noad (material i) = false
 
 -- the style behind a small item
@@ -43,6 +60,8 @@ style_behind style (Style changed) = changed
 style_behind style Nonscript = style
 style_behind style (Glue g) = style
 style_behind style (Kern size) = style
+style_behind style (Left d) = style
+style_behind style (Right d) = style
 
 -- the entries of a list, and the style behind them
 abbrev pub Laid : Type 0
@@ -67,7 +86,7 @@ abbrev mutual
 
   pub laid_item : ℕ → MathItem → Laid
   laid_item style (atom kind nucleus superscript subscript) = (entry_in style (atom kind nucleus superscript subscript) ∷ [], style)
-  laid_item style (fraction thickness above below) = (entry_in style (fraction thickness above below) ∷ [], style)
+  laid_item style (fraction head above below) = (entry_in style (fraction head above below) ∷ [], style)
   laid_item style (choice display text script script_script) =
       laid_behind (entry_in style (small (Style style)) ∷ []) (chosen style (laid style display) (laid style text) (laid style script) (laid style script_script))
   laid_item style (small s) = (entry_in style (small s) ∷ [], style_behind style s)
@@ -82,10 +101,12 @@ small_is_space (Style style) = false
 small_is_space Nonscript = true
 small_is_space (Glue g) = true
 small_is_space (Kern size) = true
+small_is_space (Left d) = false
+small_is_space (Right d) = false
 
 abbrev pub is_space : MathItem → Bool
 is_space (atom kind nucleus superscript subscript) = false
-is_space (fraction thickness above below) = false
+is_space (fraction head above below) = false
 is_space (choice display text script script_script) = false
 is_space (small s) = small_is_space s
 is_space (material i) = item_is_space i
@@ -95,10 +116,12 @@ small_is_nonscript (Style style) = false
 small_is_nonscript Nonscript = true
 small_is_nonscript (Glue g) = false
 small_is_nonscript (Kern size) = false
+small_is_nonscript (Left d) = false
+small_is_nonscript (Right d) = false
 
 abbrev pub is_nonscript : MathItem → Bool
 is_nonscript (atom kind nucleus superscript subscript) = false
-is_nonscript (fraction thickness above below) = false
+is_nonscript (fraction head above below) = false
 is_nonscript (choice display text script script_script) = false
 is_nonscript (small s) = small_is_nonscript s
 is_nonscript (material i) = false

@@ -1,6 +1,6 @@
 -- A list of mathematics as a horizontal list (The TeXbook, appendix G; TeX: The Program, sections 720, 725 to 760 and 1195). Errors
 -- come, and characters that their fonts lack are told, in the order in which the items are gone through.
-use Rattle.std.specs.Prelude.{ℕ, zero, suc, Bool, false, not, ◌++◌, ℤ, pos, ◌+ℤ◌, ◌-ℤ◌, List, [], ◌∷◌, Option, Some, None, Result, Ok, Err, if◌then◌else◌}
+use Rattle.std.specs.Prelude.{ℕ, zero, suc, Bool, false, not, ◌++◌, ◌&&◌, true, ℤ, pos, ◌+ℤ◌, ◌-ℤ◌, List, [], ◌∷◌, Option, Some, None, Result, Ok, Err, if◌then◌else◌}
 use Rattle.tx_num.specs.Glue.{zero_glue}
 use Rattle.tx_node.specs.declared.plain.KernKind.TheVariants.{Explicit}
 use Rattle.tx_node.specs.declared.plain.Plain.TheVariants as horizontal
@@ -9,11 +9,12 @@ use Rattle.tx_node.specs.Items.{Item, plain, PackedBox, box_item}
 use Rattle.std.specs.Int.{int_max}
 use Rattle.tx_tfm.specs.declared.state.FontState.{FontState}
 use Rattle.tx_mlist.specs.declared.kinds.AtomKind.{AtomKind}
-use Rattle.tx_mlist.specs.declared.kinds.AtomKind.TheVariants.{Ord, Op, Bin, Rel, Open, Close, Punct, Inner, Over, Under, Center}
+use Rattle.tx_mlist.specs.declared.kinds.AtomKind.TheVariants.{Ord, Op, Bin, Rel, Open, Close, Punct, Inner, Over, Under, Center, Radical, Accent}
+use Rattle.tx_mlist.specs.declared.kinds.FractionHead.{FractionHead}
 use Rattle.tx_mlist.specs.declared.kinds.Limits.{Limits}
 use Rattle.tx_mlist.specs.declared.kinds.MathCharacter.{MathCharacter}
 use Rattle.tx_mlist.specs.declared.plain.PlainNoad.{PlainNoad}
-use Rattle.tx_mlist.specs.declared.plain.PlainNoad.TheVariants.{Style, Nonscript, Glue, Kern}
+use Rattle.tx_mlist.specs.declared.plain.PlainNoad.TheVariants.{Style, Nonscript, Glue, Kern, Left, Right}
 use Rattle.tx_mlist.specs.Building.{is_empty}
 use Rattle.tx_mlist.specs.Items.{MathItem, MathItems, Part, atom, fraction, choice, small, material, empty, letter, packed, formula, gathered, listed}
 use Rattle.tx_mlist.specs.Counts.{depth_of}
@@ -23,19 +24,23 @@ use Rattle.tx_math.specs.declared.formula.Formula.{Formula}
 use Rattle.tx_math.specs.declared.nucleus.Nucleus.{Nucleus}
 use Rattle.tx_math.specs.declared.operators.OperatorBox.{OperatorBox}
 use Rattle.tx_math.specs.declared.params.MathParams.{MathParams}
+use Rattle.tx_math.specs.declared.signs.AccentPlace.{AccentPlace}
+use Rattle.tx_math.specs.Accents.{accent_box, accent_place, place_on, skew_of}
 use Rattle.tx_math.specs.Boxes.{cleaned_list, hbox, stored}
 use Rattle.tx_math.specs.Characters.{fetched, letter_nucleus, no_nucleus}
 use Rattle.tx_math.specs.Classes.{kind_before}
 use Rattle.tx_math.specs.Composing.{composed}
 use Rattle.tx_math.specs.Entries.{Entry, entries_of}
+use Rattle.tx_math.specs.Fences.{fences_of}
 use Rattle.tx_math.specs.Fractions.{even_boxes, fraction_of, thickness_of}
 use Rattle.tx_math.specs.Lines.{overlined, underlined, vcentred}
 use Rattle.tx_math.specs.Mu.{math_glue, math_kern}
 use Rattle.tx_math.specs.Operators.{about_axis, evened, has_limits, in_display, limits_of, narrowed, operator_correction, widest}
 use Rattle.tx_math.specs.Outcomes.{Telling, and_then, checked, given, passed}
 use Rattle.tx_math.specs.Parameters.{Math, has_all_parameters}
+use Rattle.tx_math.specs.Radicals.{radical}
 use Rattle.tx_math.specs.Scripts.{first_shifts, scripts_item, spaced_script, subscript_item, superscript_item}
-use Rattle.tx_math.specs.Spacing.{Piece, noad, restyled, lone, spaced, spaces_of}
+use Rattle.tx_math.specs.Spacing.{Piece, noad, fence, restyled, lone, spaced, spaces_of}
 use Rattle.tx_math.specs.Styles.{cramped, denominator_style, numerator_style, subscript_style, superscript_style}
 
 -- how the lists in a list are set: in a style, without penalties
@@ -127,6 +132,8 @@ boxing_style Inner style = style
 boxing_style Over style = cramped style
 boxing_style Under style = style
 boxing_style Center style = style
+boxing_style (Radical sign) style = cramped style
+boxing_style (Accent c) style = style
 
 abbrev pub remade : Math → ℕ → AtomKind → PackedBox → Result PackedBox MathError
 remade m style Ord x = Ok x
@@ -140,6 +147,8 @@ remade m style Inner x = Ok x
 remade m style Over x = overlined m style x
 remade m style Under x = underlined m style x
 remade m style Center x = vcentred m style x
+remade m style (Radical sign) x = radical m style sign x
+remade m style (Accent c) x = Ok x
 
 unfoldable pub remade_nucleus : Math → ℕ → AtomKind → List Item → Result Nucleus MathError
 remade_nucleus m style kind list = passed (cleaned_list m list) (λ x. passed (remade m style kind x) (λ b. Ok (box_nucleus (pos 0) b)))
@@ -216,6 +225,73 @@ unfoldable pub scripted : Inward → Math → ℕ → Bool → Part → Part →
 scripted inward m style joined nucleus sup sub =
     and_then (nucleus_of inward m style joined (not (is_empty sub)) nucleus) (with_scripts inward m style sup sub)
 
+-- an atom with an accent. The kern that moves the accent is that of a nucleus that is a character; this is fetched for it first
+-- (section 741), and nothing is left of the nucleus where its font lacks it (section 722): None then
+abbrev pub skew_if : Math → Option CharacterItem → Option ℤ
+skew_if m None = None
+skew_if m (Some c) = Some (skew_of m c)
+
+abbrev pub nucleus_skew : Math → ℕ → Part → Telling (Option ℤ)
+nucleus_skew m style empty = given (Some (pos 0))
+nucleus_skew m style (letter c) = and_then (fetched m style c) (λ found. given (skew_if m found))
+nucleus_skew m style (packed shift b) = given (Some (pos 0))
+nucleus_skew m style (formula items) = given (Some (pos 0))
+
+-- below the accent, as a nucleus
+unfoldable pub accent_nucleus : Math → AccentPlace → PackedBox → Result Nucleus MathError
+accent_nucleus m p x = passed (accent_box m p x) (λ b. Ok (box_nucleus (pos 0) b))
+
+-- scripts of a character stand below the accent with it, as an Ord has them; those of all else stand behind the accent (section 742)
+abbrev pub is_letter : Part → Bool
+is_letter empty = false
+is_letter (letter c) = true
+is_letter (packed shift b) = false
+is_letter (formula items) = false
+
+abbrev pub takes_scripts : Part → Part → Part → Bool
+takes_scripts nucleus sup sub = is_letter nucleus && not (is_empty sup && is_empty sub)
+
+unfoldable pub scripted_box : Inward → Math → ℕ → Part → Part → Part → Telling PackedBox
+scripted_box inward m style nucleus sup sub =
+    and_then (scripted inward m style false nucleus sup sub) (λ list. checked (cleaned_list m list))
+
+unfoldable pub accent_with : Inward → Math → ℕ → Part → Part → Part → AccentPlace → PackedBox → Telling (List Item)
+accent_with inward m style nucleus sup sub p x =
+    and_then (scripted_box inward m style nucleus sup sub) (λ grown.
+    and_then (checked (accent_nucleus m (place_on p x grown) grown)) (λ n. given n.nodes))
+
+unfoldable pub accent_before : Inward → Math → ℕ → Part → Part → AccentPlace → PackedBox → Telling (List Item)
+accent_before inward m style sup sub p x = and_then (checked (accent_nucleus m p x)) (with_scripts inward m style sup sub)
+
+abbrev pub accent_on : Inward → Math → ℕ → Part → Part → Part → AccentPlace → PackedBox → Telling (List Item)
+accent_on inward m style nucleus sup sub p x =
+    if takes_scripts nucleus sup sub then accent_with inward m style nucleus sup sub p x else accent_before inward m style sup sub p x
+
+-- moved by so much; or on nothing, with all scripts behind it
+unfoldable pub accent_moved : Inward → Math → ℕ → Part → Part → Part → CharacterItem → ℤ → Telling (List Item)
+accent_moved inward m style nucleus sup sub c skew =
+    and_then (cleaned inward m (cramped style) nucleus) (λ x. accent_on inward m style nucleus sup sub (accent_place m c skew x) x)
+
+unfoldable pub accent_alone : Inward → Math → ℕ → Part → Part → CharacterItem → Telling (List Item)
+accent_alone inward m style sup sub c =
+    and_then (checked (cleaned_list m [])) (λ x. accent_before inward m style sup sub (accent_place m c (pos 0) x) x)
+
+abbrev pub accent_skewed : Inward → Math → ℕ → Part → Part → Part → CharacterItem → Option ℤ → Telling (List Item)
+accent_skewed inward m style nucleus sup sub c None = accent_alone inward m style sup sub c
+accent_skewed inward m style nucleus sup sub c (Some skew) = accent_moved inward m style nucleus sup sub c skew
+
+-- where the accent's font has it; without it the atom is an Ord (section 738)
+unfoldable pub accent_over : Inward → Math → ℕ → Part → Part → Part → CharacterItem → Telling (List Item)
+accent_over inward m style nucleus sup sub c =
+    and_then (nucleus_skew m style nucleus) (accent_skewed inward m style nucleus sup sub c)
+
+abbrev pub accent_by : Inward → Math → ℕ → Part → Part → Part → Option CharacterItem → Telling (List Item)
+accent_by inward m style nucleus sup sub None = scripted inward m style false nucleus sup sub
+accent_by inward m style nucleus sup sub (Some c) = accent_over inward m style nucleus sup sub c
+
+unfoldable pub accented : Inward → Math → ℕ → MathCharacter → Part → Part → Part → Telling (List Item)
+accented inward m style c nucleus sup sub = and_then (fetched m style c) (accent_by inward m style nucleus sup sub)
+
 abbrev pub atom_list : Inward → Math → ℕ → Bool → AtomKind → Part → Part → Part → Telling (List Item)
 atom_list inward m style joined Ord nucleus sup sub = scripted inward m style joined nucleus sup sub
 atom_list inward m style joined (Op limits) nucleus sup sub = operator_list inward m style limits nucleus sup sub
@@ -228,31 +304,36 @@ atom_list inward m style joined Inner nucleus sup sub = scripted inward m style 
 atom_list inward m style joined Over nucleus sup sub = boxed_list inward m style Over nucleus sup sub
 atom_list inward m style joined Under nucleus sup sub = boxed_list inward m style Under nucleus sup sub
 atom_list inward m style joined Center nucleus sup sub = boxed_list inward m style Center nucleus sup sub
+atom_list inward m style joined (Radical sign) nucleus sup sub = boxed_list inward m style (Radical sign) nucleus sup sub
+atom_list inward m style joined (Accent c) nucleus sup sub = accented inward m style c nucleus sup sub
 
 -- a fraction (section 743)
-unfoldable pub lined_up : Math → ℕ → ℤ → PackedBox → PackedBox → Telling (List Item)
-lined_up m style thickness x z =
+unfoldable pub lined_up : Math → ℕ → ℤ → FractionHead → PackedBox → PackedBox → Telling (List Item)
+lined_up m style thickness head x z =
     and_then (even_boxes m x z) (λ boxes.
-    and_then (checked (fraction_of m style thickness boxes.0 boxes.1)) (λ b. given (box_item (pos 0) b ∷ [])))
+    and_then (checked (fraction_of m style thickness head boxes.0 boxes.1)) (λ b. given (box_item (pos 0) b ∷ [])))
 
-unfoldable pub fraction_items : Inward → Math → ℕ → ℤ → MathItems → MathItems → Telling (List Item)
-fraction_items inward m style thickness above below =
+unfoldable pub fraction_items : Inward → Math → ℕ → FractionHead → MathItems → MathItems → Telling (List Item)
+fraction_items inward m style head above below =
     and_then (cleaned inward m (numerator_style style) (formula above)) (λ x.
-    and_then (cleaned inward m (denominator_style style) (formula below)) (λ z. lined_up m style thickness x z))
+    and_then (cleaned inward m (denominator_style style) (formula below)) (λ z.
+    lined_up m style (thickness_of m style head.thickness) head x z))
 
--- glue and kerns that are told in mu; \nonscript is glue of no size
+-- glue and kerns that are told in mu; \nonscript is glue of no size; \left is an Open, \right a Close
 abbrev pub small_piece : Math → ℕ → PlainNoad → Result Piece MathError
 small_piece m style (Style changed) = Ok (restyled changed)
 small_piece m style Nonscript = Ok (lone (plain (horizontal.Glue zero_glue)))
 small_piece m style (Glue g) = passed (math_glue m style g) (λ glue. Ok (lone (plain (horizontal.Glue glue))))
 small_piece m style (Kern size) = passed (math_kern m style size) (λ width. Ok (lone (plain (horizontal.Kern Explicit width))))
+small_piece m style (Left d) = Ok (fence Open d)
+small_piece m style (Right d) = Ok (fence Close d)
 
 -- what an entry of this kind becomes. No choice is among the entries of a list
 abbrev pub piece_of : Inward → Math → AtomKind → Entry → MathItem → Telling Piece
 piece_of inward m kind e (atom own nucleus sup sub) =
     and_then (atom_list inward m e.style e.joined kind nucleus sup sub) (λ list. given (noad kind list))
-piece_of inward m kind e (fraction thickness above below) =
-    and_then (fraction_items inward m e.style (thickness_of m e.style thickness) above below) (λ list. given (noad Ord list))
+piece_of inward m kind e (fraction head above below) =
+    and_then (fraction_items inward m e.style head above below) (λ list. given (noad Ord list))
 piece_of inward m kind e (choice display text script script_script) = given (restyled e.style)
 piece_of inward m kind e (small s) = checked (small_piece m e.style s)
 piece_of inward m kind e (material i) = given (lone i)
@@ -268,7 +349,8 @@ pieces_of inward m (e ∷ rest) =
 -- the two passes of mlist_to_hlist (sections 726, 727 and 760): each item is set, and then spaces and penalties stand between them
 unfoldable pub converted : Inward → Math → ℕ → Bool → List Entry → Telling (List Item)
 converted inward m style penalties entries =
-    and_then (pieces_of inward m (composed m entries)) (λ pieces. checked (spaced m penalties (spaces_of style None) pieces))
+    and_then (pieces_of inward m (composed m entries)) (λ pieces.
+    checked (spaced m penalties (fences_of m style pieces) (spaces_of style None) pieces))
 
 -- a list in a style, in which lists stand in one another so many levels deep at most
 unfoldable pub list_in : ℕ → Math → Bool → ℕ → List MathItem → Telling (List Item)

@@ -1,13 +1,15 @@
 -- Fractions (The TeXbook, appendix G, rule 15; TeX: The Program, sections 743 to 748).
-use Rattle.std.specs.Prelude.{ℕ, ℤ, pos, ◌+ℤ◌, ◌-ℤ◌, ◌*ℤ◌, neg_ℤ, int_lt, List, [], ◌∷◌, Option, unwrap_or, Result, Ok, if◌then◌else◌}
+use Rattle.std.specs.Prelude.{ℕ, ℤ, pos, ◌+ℤ◌, ◌-ℤ◌, ◌*ℤ◌, int_lt, List, [], ◌∷◌, Option, unwrap_or, Result, Ok, if◌then◌else◌}
 use Rattle.std.specs.Int.{int_max}
 use Rattle.tx_node.specs.Items.{Item, PackedBox, box_item}
 use Rattle.tx_pack.specs.Stretching.{is_nothing}
+use Rattle.tx_mlist.specs.declared.kinds.FractionHead.{FractionHead}
 use Rattle.tx_math.specs.declared.error.MathError.{MathError}
 use Rattle.tx_math.specs.declared.shifts.Shifts.{Shifts}
-use Rattle.tx_math.specs.Boxes.{empty_box, framed, hbox, kern, line, reboxed, shifted, stored}
+use Rattle.tx_math.specs.Boxes.{framed, hbox, kern, line, reboxed, stored}
+use Rattle.tx_math.specs.Delimiters.{delimiter_item}
 use Rattle.tx_math.specs.Outcomes.{Telling, and_then, given, passed}
-use Rattle.tx_math.specs.Parameters.{Math, axis, denom1, denom2, half, num1, num2, num3, rule_thickness}
+use Rattle.tx_math.specs.Parameters.{Math, axis, delim1, delim2, denom1, denom2, half, num1, num2, num3, rule_thickness}
 use Rattle.tx_math.specs.Scripts.{gap, shifts_of}
 use Rattle.tx_math.specs.Styles.{is_display}
 
@@ -94,13 +96,16 @@ unfoldable pub fraction_box : Math → ℕ → ℤ → Shifts → PackedBox → 
 fraction_box m style thickness s x z =
     passed (fraction_list m style thickness s x z) (framed x.head.width (fraction_height s x) (fraction_depth s z))
 
--- an empty box of \nulldelimiterspace stands on both sides, raised to the axis (sections 706 and 748)
-abbrev pub null_delimiter : Math → ℕ → Result Item MathError
-null_delimiter m style = shifted (neg_ℤ (axis m style)) (empty_box m.params.null_delimiter_space)
+-- delimiters stand on both sides, which are as tall as the symbol font asks; where none is told they are empty boxes (section 748)
+abbrev pub delimiter_size : Math → ℕ → ℤ
+delimiter_size m style = if is_display style then delim1 m style else delim2 m style
 
-abbrev pub between_delimiters : Math → ℕ → PackedBox → Result PackedBox MathError
-between_delimiters m style v = passed (null_delimiter m style) (λ side. hbox m (side ∷ box_item (pos 0) v ∷ side ∷ []))
+unfoldable pub between_delimiters : Math → ℕ → FractionHead → PackedBox → Result PackedBox MathError
+between_delimiters m style head v =
+    passed (delimiter_item m style head.left (delimiter_size m style)) (λ left.
+    passed (delimiter_item m style head.right (delimiter_size m style)) (λ right.
+    hbox m (left ∷ box_item (pos 0) v ∷ right ∷ [])))
 
-unfoldable pub fraction_of : Math → ℕ → ℤ → PackedBox → PackedBox → Result PackedBox MathError
-fraction_of m style thickness x z =
-    passed (fraction_box m style thickness (fraction_shifts m style thickness x z) x z) (between_delimiters m style)
+unfoldable pub fraction_of : Math → ℕ → ℤ → FractionHead → PackedBox → PackedBox → Result PackedBox MathError
+fraction_of m style thickness head x z =
+    passed (fraction_box m style thickness (fraction_shifts m style thickness x z) x z) (between_delimiters m style head)

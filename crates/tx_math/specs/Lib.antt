@@ -7,11 +7,15 @@ pub mod Characters
 pub mod Scripts
 pub mod Lines
 pub mod Operators
+pub mod Delimiters
 pub mod Fractions
+pub mod Radicals
 pub mod Entries
 pub mod Composing
+pub mod Accents
 pub mod Classes
 pub mod Spacing
+pub mod Fences
 pub mod Formula
 pub mod Setters
 pub mod Converting

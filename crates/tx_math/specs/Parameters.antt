@@ -78,6 +78,13 @@ sup_drop m size = symbol m size 18
 abbrev pub sub_drop : Math → MathSize → ℤ
 sub_drop m size = symbol m size 19
 
+-- how tall the delimiters of a fraction are at least: in display style, and in others
+abbrev pub delim1 : Math → ℕ → ℤ
+delim1 m style = symbol m (size_of style) 20
+
+abbrev pub delim2 : Math → ℕ → ℤ
+delim2 m style = symbol m (size_of style) 21
+
 -- how far the axis is above the baseline
 abbrev pub axis : Math → ℕ → ℤ
 axis m style = symbol m (size_of style) 22

@@ -2,6 +2,7 @@
 use Rattle.std.specs.Prelude.{◌≤◌, ◌^◌, ℤ, unsigned_abs, Option, Some, None}
 use Rattle.tx_num.specs.Glue.{IsDimension}
 use Rattle.tx_math.specs.declared.nucleus.Nucleus.{Nucleus}
+use Rattle.tx_math.specs.declared.piece.Reach.{Reach}
 use Rattle.tx_math.specs.declared.setter.Setter.{Setter}
 use Rattle.tx_math.specs.declared.shifts.Shifts.{Shifts}
 use Rattle.tx_math.specs.Parameters.{Math}
@@ -19,6 +20,10 @@ IsNear size = unsigned_abs size ≤ 2 ^ 40
 
 abbrev pub AreNear : Shifts → Type 0
 AreNear s = IsNear s.up × IsNear s.down
+
+-- how far items reach, each of which is a dimension and may be shifted by one
+abbrev pub IsReach : Reach → Type 0
+IsReach r = (unsigned_abs r.height ≤ 2 ^ 32) × (unsigned_abs r.depth ≤ 2 ^ 32)
 
 -- what holds of a nucleus that is made
 abbrev pub AreEdges : Option (ℤ × ℤ) → Type 0

@@ -6,19 +6,24 @@ use Rattle.tx_node.specs.declared.plain.Plain.{Plain}
 use Rattle.tx_node.specs.declared.plain.Plain.TheVariants.{Kern, Glue, Penalty, Character}
 use Rattle.tx_node.specs.Items.{Item, plain}
 use Rattle.tx_mlist.specs.declared.kinds.AtomKind.{AtomKind}
-use Rattle.tx_mlist.specs.declared.kinds.AtomKind.TheVariants.{Ord, Op, Bin, Rel, Open, Close, Punct, Inner, Over, Under, Center}
+use Rattle.tx_mlist.specs.declared.kinds.Delimiter.{Delimiter}
+use Rattle.tx_mlist.specs.declared.kinds.AtomKind.TheVariants.{Ord, Op, Bin, Rel, Open, Close, Punct, Inner, Over, Under, Center, Radical, Accent}
 use Rattle.tx_math.specs.declared.error.MathError.{MathError}
 use Rattle.tx_math.specs.declared.params.MathParams.{MathParams}
+use Rattle.tx_math.specs.declared.piece.Fences.{Fences}
 use Rattle.tx_math.specs.declared.piece.Spaces.{Spaces}
 use Rattle.tx_math.specs.Boxes.{is_plain}
+use Rattle.tx_math.specs.Delimiters.{delimiter_item}
 use Rattle.tx_math.specs.Mu.{math_glue}
 use Rattle.tx_math.specs.Outcomes.{passed}
 use Rattle.tx_math.specs.Parameters.{Math}
 use Rattle.tx_math.specs.Styles.{is_large}
 
--- what the items of a list have become before spaces stand between them: an atom's items, a style, or an item as it is
+-- what the items of a list have become before spaces stand between them: an atom's items, a delimiter of \left or \right, which is an
+-- Open or a Close, a style, or an item as it is
 pub data Piece : Type 0 where
   noad : AtomKind → List Item → Piece
+  fence : AtomKind → Delimiter → Piece
   restyled : ℕ → Piece
   lone : Item → Piece
 
@@ -35,6 +40,8 @@ class_number Inner = 7
 class_number Over = 0
 class_number Under = 0
 class_number Center = 0
+class_number (Radical sign) = 0
+class_number (Accent c) = 0
 
 -- the spaces between an atom of a class and one behind it of each class in their order (section 764): 0 none, 1 \thinmuskip and
 -- 3 \medmuskip and 4 \thickmuskip in display and text style, 2 \thinmuskip in all styles; a star where no such pair comes
@@ -50,6 +57,8 @@ spaces_behind Inner = codes "12341011"
 spaces_behind Over = codes "02340001"
 spaces_behind Under = codes "02340001"
 spaces_behind Center = codes "02340001"
+spaces_behind (Radical sign) = codes "02340001"
+spaces_behind (Accent c) = codes "02340001"
 
 -- the glue of a sign of that table in a style, in mu (section 766)
 abbrev pub if_large : ℕ → GlueSpec → Option GlueSpec
@@ -88,6 +97,8 @@ penalty_of params Inner = pos 10000
 penalty_of params Over = pos 10000
 penalty_of params Under = pos 10000
 penalty_of params Center = pos 10000
+penalty_of params (Radical sign) = pos 10000
+penalty_of params (Accent c) = pos 10000
 
 -- none stands at the end, nor before a penalty or a Rel (section 767)
 abbrev pub plain_is_penalty : Plain → Bool
@@ -108,9 +119,12 @@ is_rel Inner = false
 is_rel Over = false
 is_rel Under = false
 is_rel Center = false
+is_rel (Radical sign) = false
+is_rel (Accent c) = false
 
 abbrev pub piece_takes_penalty : Piece → Bool
 piece_takes_penalty (noad kind items) = not (is_rel kind)
+piece_takes_penalty (fence kind d) = not (is_rel kind)
 piece_takes_penalty (restyled style) = true
 piece_takes_penalty (lone item) = not (is_plain plain_is_penalty item)
 
@@ -127,23 +141,27 @@ abbrev pub noad_items : Math → Bool → ℕ → Option AtomKind → AtomKind �
 noad_items m penalties style before kind items rest =
     passed (space_before m style before kind) (λ space. Ok (space ++ items ++ penalty_behind m.params penalties kind rest))
 
--- what a piece becomes, and in which style and behind an atom of which kind the next one stands, if behind one
-abbrev pub piece_items : Math → Bool → Spaces → Piece → List Piece → Result (List Item) MathError
-piece_items m penalties spaces (noad kind items) rest = noad_items m penalties spaces.style spaces.before kind items rest
-piece_items m penalties spaces (restyled style) rest = Ok []
-piece_items m penalties spaces (lone item) rest = Ok (item ∷ [])
+-- what a piece becomes, and in which style and behind an atom of which kind the next one stands, if behind one. A delimiter is as tall
+-- as its list asks
+abbrev pub piece_items : Math → Bool → Fences → Spaces → Piece → List Piece → Result (List Item) MathError
+piece_items m penalties fences spaces (noad kind items) rest = noad_items m penalties spaces.style spaces.before kind items rest
+piece_items m penalties fences spaces (fence kind d) rest =
+    passed (delimiter_item m fences.style d fences.size) (λ item. noad_items m penalties spaces.style spaces.before kind (item ∷ []) rest)
+piece_items m penalties fences spaces (restyled style) rest = Ok []
+piece_items m penalties fences spaces (lone item) rest = Ok (item ∷ [])
 
 abbrev pub spaces_of : ℕ → Option AtomKind → Spaces
 spaces_of style before = record { style = style; before = before }
 
 abbrev pub spaces_after : Spaces → Piece → Spaces
 spaces_after spaces (noad kind items) = spaces_of spaces.style (Some kind)
+spaces_after spaces (fence kind d) = spaces_of spaces.style (Some kind)
 spaces_after spaces (restyled style) = spaces_of style spaces.before
 spaces_after spaces (lone item) = spaces
 
 -- the list of pieces
-abbrev pub spaced : Math → Bool → Spaces → List Piece → Result (List Item) MathError
-spaced m penalties spaces [] = Ok []
-spaced m penalties spaces (piece ∷ rest) =
-    passed (piece_items m penalties spaces piece rest) (λ items.
-    passed (spaced m penalties (spaces_after spaces piece) rest) (λ more. Ok (items ++ more)))
+abbrev pub spaced : Math → Bool → Fences → Spaces → List Piece → Result (List Item) MathError
+spaced m penalties fences spaces [] = Ok []
+spaced m penalties fences spaces (piece ∷ rest) =
+    passed (piece_items m penalties fences spaces piece rest) (λ items.
+    passed (spaced m penalties fences (spaces_after spaces piece) rest) (λ more. Ok (items ++ more)))

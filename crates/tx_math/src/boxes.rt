@@ -75,6 +75,15 @@ pub fn single(alloc: Global, node: Node) -> Result<Nodes, AllocError>
     Ok(list)
 }
 
+/// A list of two nodes. Its only error is want of memory.
+pub fn pair(alloc: Global, one: Node, another: Node) -> Result<Nodes, AllocError>
+    ensures { IfOk result (λ list. list ≡ item_of one ∷ item_of another ∷ []) }
+{
+    let mut list = single(alloc, one)?;
+    list.push(another)?;
+    Ok(list)
+}
+
 /// A list of three nodes. Its only error is want of memory.
 pub fn triple(alloc: Global, one: Node, another: Node, third: Node) -> Result<Nodes, AllocError>
     ensures { IfOk result (λ list. list ≡ item_of one ∷ item_of another ∷ item_of third ∷ []) }
@@ -107,20 +116,6 @@ pub fn with_height(inner: BoxNode, height: i64, depth: i64) -> Result<BoxNode, M
     inner.set_height(height);
     inner.set_depth(depth);
     Ok(inner)
-}
-
-/// A horizontal box without a list, so many sp wide. Its only error is want of memory.
-pub fn empty_box(alloc: Global, width: i32) -> Result<BoxNode, AllocError>
-    ensures { IfOk result (λ made. made ≡ spec.empty_box width) }
-{
-    let head = BoxHead {
-        direction: Direction::Horizontal,
-        width,
-        height: 0,
-        depth: 0,
-        setting: Setting::Natural,
-    };
-    BoxNode::new(alloc, head, Nodes::new(alloc))
 }
 
 /// A list in a vertical box of sizes of its own, in sp. `SizeOutOfRange` exactly where one of these is no dimension, else `TooDeep`

@@ -1,6 +1,5 @@
 //! Characters of families (TeX: The Program, sections 709 and 722 to 724).
-ghost use Rattle.std.specs.Prelude.{◌≡◌, ◌≢◌, ◌≤◌, ◌^◌, ◌++◌, unsigned_abs, IfOk, IfErr, OnOk, Ok, Err};
-ghost use Rattle.tx_word.specs.Words.{character_of as character_in};
+ghost use Rattle.std.specs.Prelude.{◌≡◌, ◌≢◌, ◌++◌, IfOk, IfErr, OnOk, Ok, Err};
 ghost use Rattle.tx_math.specs.Characters as spec;
 ghost use Rattle.tx_math.specs.Setters.{IsNucleus, math_in};
 ghost use Rattle.tx_math.specs.declared.error.MathError.TheVariants.{OutOfMemory};
@@ -12,35 +11,10 @@ use crate::setter::Setter;
 use crate::styles::size_of;
 use std::alloc::{AllocError, Global};
 use tx_bytes::Bytes;
+use tx_delim::character_of;
 use tx_hyphenate::report_lacking;
 use tx_mlist::MathCharacter;
 use tx_node::{Character, Node, Nodes, Plain};
-use tx_tfm::Fonts;
-
-/// A character of the font of a number, with the sizes that the font gives it.
-pub fn character_of(fonts: &Fonts, font: u8, code: u8) -> Character
-    ensures { result ≡ character_in fonts.now font code }
-{
-    match fonts.get(font) {
-        Some(named) => {
-            let metrics = named.font.character(code);
-            Character {
-                font,
-                code,
-                width: metrics.width,
-                height: metrics.height,
-                depth: metrics.depth,
-            }
-        }
-        None => Character {
-            font,
-            code,
-            width: 0,
-            height: 0,
-            depth: 0,
-        },
-    }
-}
 
 /// What stands for no nucleus; takes no memory.
 pub fn no_nucleus(alloc: Global) -> Nucleus

@@ -1,20 +1,20 @@
 //! Fractions (TeX: The Program, sections 743 to 748).
 ghost use Rattle.std.specs.Prelude.{◌≡◌, ◌≢◌, ◌≤◌, ◌+◌, ◌^◌, unsigned_abs, IfOk, IfErr, Ok, Err};
-ghost use Rattle.tx_node.specs.Nodes.{item_of};
 ghost use Rattle.tx_math.specs.Fractions as spec;
 ghost use Rattle.tx_math.specs.Setters.{AreNear, IsNear, IsSetter, math_in};
 ghost use Rattle.tx_math.specs.declared.error.MathError.TheVariants.{OutOfMemory};
 
-use crate::boxes::{boxed, empty_box, framed, kern, line, shifted, stored, triple};
+use crate::boxes::{boxed, framed, kern, line, stored, triple};
 use crate::error::MathError;
 use crate::parameters::half;
 use crate::scripts::gap;
 use crate::setter::Setter;
 use crate::shifts::Shifts;
-use crate::sums::{greater, minus, negated, plus, times};
+use crate::sums::{greater, minus, plus, times};
 use std::alloc::Global;
 use tx_bytes::Bytes;
-use tx_node::{BoxNode, Node, Nodes};
+use tx_mlist::FractionHead;
+use tx_node::{BoxNode, Nodes};
 
 /// Both moved by so many sp, if that is something.
 fn moved_by(by: i64, shifts: Shifts) -> Shifts
@@ -348,49 +348,57 @@ impl Setter<'_> {
         framed(alloc, width, height, depth, list)
     }
 
-    /// What stands beside a fraction.
-    fn null_delimiter(&self, alloc: Global, style: u8) -> Result<Node, MathError>
-        ensures made { IfOk result (λ node. spec.null_delimiter (math_in self.now) style ≡ Ok (item_of node)) }
-        ensures error { IfErr result (λ e. e ≢ OutOfMemory → spec.null_delimiter (math_in self.now) style ≡ Err e) }
+    /// How tall the delimiters of a fraction are at least, in sp.
+    fn delimiter_size(&self, style: u8) -> i64
+        ensures value { result ≡ spec.delimiter_size (math_in self.now) style }
+        ensures bound { unsigned_abs result ≤ 2 ^ 31 }
     {
-        let inner = empty_box(alloc, self.params.null_delimiter_space)?;
-        shifted(alloc, negated(self.symbol_in(style, 22)), inner)
+        if style < 2 {
+            self.symbol_in(style, 20)
+        } else {
+            self.symbol_in(style, 21)
+        }
     }
 
-    /// The box of a fraction with what stands on both sides.
+    /// The box of a fraction with its delimiters on both sides.
+    #[tactic(auto, unfolding(crate::specs::Fractions::between_delimiters))]
     fn between_delimiters(
         &self,
         alloc: Global,
         style: u8,
+        head: FractionHead,
         inner: BoxNode,
     ) -> Result<BoxNode, MathError>
         requires { IsSetter self.now }
-        ensures made { IfOk result (λ made. spec.between_delimiters (math_in self.now) style inner ≡ Ok made) }
-        ensures error { IfErr result (λ e. e ≢ OutOfMemory → spec.between_delimiters (math_in self.now) style inner ≡ Err e) }
+        ensures made { IfOk result (λ made. spec.between_delimiters (math_in self.now) style head inner ≡ Ok made) }
+        ensures error { IfErr result (λ e. e ≢ OutOfMemory → spec.between_delimiters (math_in self.now) style head inner ≡ Err e) }
     {
-        let before = self.null_delimiter(alloc, style)?;
-        let behind = before.clone()?;
-        let list = triple(alloc, before, boxed(alloc, inner)?, behind)?;
+        let size = self.delimiter_size(style);
+        let left = self.delimiter_item(alloc, style, head.left, size)?;
+        let right = self.delimiter_item(alloc, style, head.right, size)?;
+        let inner = boxed(alloc, inner)?;
+        let list = triple(alloc, left, inner, right)?;
         self.hbox(alloc, list)
     }
 
-    /// A fraction with a line of this thickness, of a numerator and a denominator of one width.
+    /// A fraction with a line of this thickness, in sp, and its delimiters, of a numerator and a denominator of one width.
     #[tactic(auto, unfolding(crate::specs::Fractions::fraction_of))]
     pub fn fraction_of(
         &self,
         alloc: Global,
         style: u8,
         thickness: i64,
+        head: FractionHead,
         upper: BoxNode,
         lower: BoxNode,
     ) -> Result<BoxNode, MathError>
         requires setter { IsSetter self.now }
         requires thickness { unsigned_abs thickness ≤ 2 ^ 31 }
-        ensures made { IfOk result (λ made. spec.fraction_of (math_in self.now) style thickness upper lower ≡ Ok made) }
-        ensures error { IfErr result (λ e. e ≢ OutOfMemory → spec.fraction_of (math_in self.now) style thickness upper lower ≡ Err e) }
+        ensures made { IfOk result (λ made. spec.fraction_of (math_in self.now) style thickness head upper lower ≡ Ok made) }
+        ensures error { IfErr result (λ e. e ≢ OutOfMemory → spec.fraction_of (math_in self.now) style thickness head upper lower ≡ Err e) }
     {
         let shifts = self.fraction_shifts(style, thickness, &upper, &lower);
         let inner = self.fraction_box(alloc, style, thickness, shifts, upper, lower)?;
-        self.between_delimiters(alloc, style, inner)
+        self.between_delimiters(alloc, style, head, inner)
     }
 }

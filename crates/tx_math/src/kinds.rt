@@ -14,6 +14,7 @@ pub fn is_bin(kind: AtomKind) -> bool
         AtomKind::Ord | AtomKind::Op(_) | AtomKind::Rel | AtomKind::Open | AtomKind::Close => false,
         AtomKind::Punct | AtomKind::Inner => false,
         AtomKind::Over | AtomKind::Under | AtomKind::Center => false,
+        AtomKind::Radical(_) | AtomKind::Accent(_) => false,
     }
 }
 
@@ -25,6 +26,7 @@ pub fn awaits_operand(kind: AtomKind) -> bool
         AtomKind::Op(_) | AtomKind::Bin | AtomKind::Rel | AtomKind::Open | AtomKind::Punct => true,
         AtomKind::Ord | AtomKind::Close | AtomKind::Inner => false,
         AtomKind::Over | AtomKind::Under | AtomKind::Center => false,
+        AtomKind::Radical(_) | AtomKind::Accent(_) => false,
     }
 }
 
@@ -36,6 +38,7 @@ pub fn lacks_operand(kind: AtomKind) -> bool
         AtomKind::Rel | AtomKind::Close | AtomKind::Punct => true,
         AtomKind::Ord | AtomKind::Op(_) | AtomKind::Bin | AtomKind::Open | AtomKind::Inner => false,
         AtomKind::Over | AtomKind::Under | AtomKind::Center => false,
+        AtomKind::Radical(_) | AtomKind::Accent(_) => false,
     }
 }
 
@@ -47,5 +50,6 @@ pub fn may_follow(kind: AtomKind) -> bool
         AtomKind::Ord | AtomKind::Op(_) | AtomKind::Bin | AtomKind::Rel | AtomKind::Open => true,
         AtomKind::Close | AtomKind::Punct => true,
         AtomKind::Inner | AtomKind::Over | AtomKind::Under | AtomKind::Center => false,
+        AtomKind::Radical(_) | AtomKind::Accent(_) => false,
     }
 }

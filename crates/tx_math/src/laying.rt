@@ -12,23 +12,50 @@ use std::alloc::{AllocError, Global};
 use tx_list::Items;
 use tx_mlist::{AtomKind, Choice, Noad, PlainNoad};
 
+/// The kind of a small noad where a list is begun with.
+fn kind_of_small(item: PlainNoad) -> AtomKind
+    ensures { result ≡ spec.kind_of_small item }
+{
+    match item {
+        PlainNoad::Left(_) => AtomKind::Open,
+        PlainNoad::Right(_) => AtomKind::Close,
+        PlainNoad::Style(_) | PlainNoad::Nonscript | PlainNoad::Glue(_) | PlainNoad::Kern(_) => {
+            AtomKind::Ord
+        }
+    }
+}
+
 /// The kind of a noad where a list is begun with.
 fn kind_of(noad: &Noad) -> AtomKind
     ensures { result ≡ spec.kind_of_item (math_of noad.now) }
 {
     match noad {
         Noad::Atom(atom) => atom.kind,
-        Noad::Fraction(_) | Noad::Choice(_) | Noad::Plain(_) | Noad::Node(_) => AtomKind::Ord,
+        Noad::Plain(item) => kind_of_small(*item),
+        Noad::Fraction(_) | Noad::Choice(_) | Noad::Node(_) => AtomKind::Ord,
     }
 }
 
-/// Whether a noad is an atom or a fraction.
+/// Whether a small noad is \left or \right.
+fn small_is_noad(item: PlainNoad) -> bool
+    ensures { result ≡ spec.small_is_noad item }
+{
+    match item {
+        PlainNoad::Left(_) | PlainNoad::Right(_) => true,
+        PlainNoad::Style(_) | PlainNoad::Nonscript | PlainNoad::Glue(_) | PlainNoad::Kern(_) => {
+            false
+        }
+    }
+}
+
+/// Whether a noad is an atom, a fraction, \left or \right.
 pub fn is_noad(noad: &Noad) -> bool
     ensures { result ≡ spec.is_noad (math_of noad.now) }
 {
     match noad {
         Noad::Atom(_) | Noad::Fraction(_) => true,
-        Noad::Choice(_) | Noad::Plain(_) | Noad::Node(_) => false,
+        Noad::Plain(item) => small_is_noad(*item),
+        Noad::Choice(_) | Noad::Node(_) => false,
     }
 }
 
@@ -51,6 +78,7 @@ fn style_behind(style: u8, item: PlainNoad) -> u8
     match item {
         PlainNoad::Style(changed) => changed,
         PlainNoad::Nonscript | PlainNoad::Glue(_) | PlainNoad::Kern(_) => style,
+        PlainNoad::Left(_) | PlainNoad::Right(_) => style,
     }
 }
 
@@ -118,7 +146,7 @@ fn is_space(noad: &Noad) -> bool
     match noad {
         Noad::Atom(_) | Noad::Fraction(_) | Noad::Choice(_) => false,
         Noad::Plain(PlainNoad::Nonscript | PlainNoad::Glue(_) | PlainNoad::Kern(_)) => true,
-        Noad::Plain(PlainNoad::Style(_)) => false,
+        Noad::Plain(PlainNoad::Style(_) | PlainNoad::Left(_) | PlainNoad::Right(_)) => false,
         Noad::Node(node) => node.glue().is_some() || is_kern(node),
     }
 }
@@ -130,6 +158,7 @@ fn is_nonscript(noad: &Noad) -> bool
     match noad {
         Noad::Plain(PlainNoad::Nonscript) => true,
         Noad::Plain(PlainNoad::Style(_) | PlainNoad::Glue(_) | PlainNoad::Kern(_)) => false,
+        Noad::Plain(PlainNoad::Left(_) | PlainNoad::Right(_)) => false,
         Noad::Atom(_) | Noad::Fraction(_) | Noad::Choice(_) | Noad::Node(_) => false,
     }
 }

@@ -7,7 +7,6 @@ ghost use Rattle.tx_math.specs.Setters.{IsSetter, math_in};
 ghost use Rattle.tx_math.specs.declared.error.MathError.TheVariants.{OutOfMemory};
 
 use crate::boxes::{boxed, framed, kern, shifted, stored, triple, with_width};
-use crate::characters::character_of;
 use crate::error::MathError;
 use crate::operators::{Limit, Limited, OperatorBox};
 use crate::parameters::half;
@@ -15,6 +14,7 @@ use crate::setter::Setter;
 use crate::sums::{greater, minus, negated, plus};
 use std::alloc::{AllocError, Global};
 use tx_bytes::Bytes;
+use tx_delim::character_of;
 use tx_mlist::Limits;
 use tx_node::{BoxNode, Character, Nodes};
 use tx_tfm::Fonts;
@@ -180,7 +180,7 @@ impl Setter<'_> {
     }
 
     /// How far down a box is shifted that is centred about the axis, in sp.
-    fn about_axis(&self, style: u8, inner: &BoxNode) -> i64
+    pub fn about_axis(&self, style: u8, inner: &BoxNode) -> i64
         ensures { result ≡ spec.about_axis (math_in self.now) style inner.now }
     {
         let excess = minus(i64::from(inner.height()), i64::from(inner.depth()));

@@ -34,7 +34,7 @@ fn threefold(thickness: i32) -> i64
 
 /// What stands below a line of this thickness, from the top: the space above the line, the line, a space, and a box. In sp. Its
 /// only error is want of memory.
-fn below_line(
+pub fn below_line(
     alloc: Global,
     thickness: i32,
     space: i32,

@@ -22,14 +22,17 @@ pub struct FamilyFonts {
     pub script_script: [u8; 16],
 }
 
-/// The fonts of the families and the parameters of formulas, by TeX's names, in sp: the three spaces, told in mu, the widths beside
-/// fractions and scripts, the penalties behind operations and relations, and the parameters of horizontal boxes.
+/// The fonts of the families and the parameters of formulas, by TeX's names, in sp: the three spaces, told in mu, how tall
+/// delimiters are at least, in thousandths of what they enclose and by how much they may fall short of it, the width of one that
+/// isn't there, that behind scripts, the penalties behind operations and relations, and the parameters of horizontal boxes.
 #[derive(Clone, Copy)]
 pub struct MathParams {
     pub families: FamilyFonts,
     pub thin_mu_skip: Glue,
     pub med_mu_skip: Glue,
     pub thick_mu_skip: Glue,
+    pub delimiter_factor: i32,
+    pub delimiter_shortfall: i32,
     pub null_delimiter_space: i32,
     pub script_space: i32,
     pub bin_op_penalty: i32,

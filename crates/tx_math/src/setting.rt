@@ -1,5 +1,5 @@
 //! Formulas as horizontal lists (TeX: The Program, sections 719 to 726).
-ghost use Rattle.std.specs.Prelude.{◌≡◌, ◌≢◌, ◌≤◌, ◌^◌, ◌++◌, ◌∷◌, [], false, pos, unsigned_abs, Some, IfOk, IfErr, OnOk, Ok, Err};
+ghost use Rattle.std.specs.Prelude.{◌≡◌, ◌≢◌, ◌≤◌, ◌^◌, ◌++◌, ◌∷◌, [], false, pos, unsigned_abs, Some, IfOk, IfErr, IfSome, OnOk, Ok, Err};
 ghost use Rattle.tx_num.specs.Glue.{IsDimension};
 ghost use Rattle.tx_node.specs.Items.{box_item};
 ghost use Rattle.tx_node.specs.Nodes.{item_of};
@@ -7,10 +7,10 @@ ghost use Rattle.tx_mlist.specs.Items.{formula, gathered};
 ghost use Rattle.tx_mlist.specs.Noads.{mlist_of, part_of};
 ghost use Rattle.tx_math.specs.Converting.{entries_in, entry_of, piece_in, pieces_in};
 ghost use Rattle.tx_math.specs.Formula as spec;
-ghost use Rattle.tx_math.specs.Fractions.{thickness_of as thickness_in};
 ghost use Rattle.tx_math.specs.Setters.{IsNucleus, IsSetter, math_in};
 ghost use Rattle.tx_math.specs.declared.error.MathError.TheVariants.{OutOfMemory};
 
+use crate::accents::place_on;
 use crate::boxes::{boxed, single};
 use crate::characters::no_nucleus;
 use crate::classes::kind_before;
@@ -24,6 +24,7 @@ use crate::operators::OperatorBox;
 use crate::params::MathParams;
 use crate::piece::Piece;
 use crate::setter::Setter;
+use crate::signs::AccentPlace;
 use crate::stacks::stacked;
 use crate::styles::{
     cramped, denominator_style, numerator_style, subscript_style, superscript_style,
@@ -32,8 +33,10 @@ use crate::sums::{greater, minus, plus};
 use std::alloc::{AllocError, Global};
 use tx_bytes::Bytes;
 use tx_list::Items;
-use tx_mlist::{Atom, AtomKind, Field, Fraction, InnerList, MathCharacter, Mlist, Noad, PlainNoad};
-use tx_node::{BoxNode, KernKind, Node, Nodes, Plain};
+use tx_mlist::{
+    Atom, AtomKind, Field, Fraction, FractionHead, InnerList, MathCharacter, Mlist, Noad, PlainNoad,
+};
+use tx_node::{BoxNode, Character, KernKind, Node, Nodes, Plain};
 use tx_num::Glue;
 use tx_tfm::Fonts;
 
@@ -65,10 +68,10 @@ fn boxing_style(kind: AtomKind, style: u8) -> u8
     ensures { result ≡ spec.boxing_style kind style }
 {
     match kind {
-        AtomKind::Over => cramped(style),
+        AtomKind::Over | AtomKind::Radical(_) => cramped(style),
         AtomKind::Ord | AtomKind::Op(_) | AtomKind::Bin | AtomKind::Rel | AtomKind::Open => style,
         AtomKind::Close | AtomKind::Punct | AtomKind::Inner => style,
-        AtomKind::Under | AtomKind::Center => style,
+        AtomKind::Under | AtomKind::Center | AtomKind::Accent(_) => style,
     }
 }
 
@@ -92,6 +95,23 @@ fn part_or(nucleus: &Field, operator: Option<OperatorBox>) -> Result<Field, Allo
     }
 }
 
+/// Whether a part is a character.
+fn is_letter(part: &Field) -> bool
+    ensures { result ≡ spec.is_letter (part_of part.now) }
+{
+    match part {
+        Field::Character(_) => true,
+        Field::Empty | Field::Packed(_, _) | Field::Formula(_) => false,
+    }
+}
+
+/// Whether the scripts of an atom stand below its accent.
+fn takes_scripts(atom: &Atom) -> bool
+    ensures { result ≡ spec.takes_scripts (part_of atom.now.nucleus) (part_of atom.now.superscript) (part_of atom.now.subscript) }
+{
+    is_letter(&atom.nucleus) && !(atom.superscript.is_empty() && atom.subscript.is_empty())
+}
+
 impl Setter<'_> {
     /// A small noad, as a piece. `SizeOutOfRange` exactly where what it tells in mu is no dimension.
     fn small_piece(&self, style: u8, item: PlainNoad) -> Result<Piece, MathError>
@@ -109,6 +129,8 @@ impl Setter<'_> {
                 let size = self.math_kern(style, size)?;
                 Ok(Piece::Lone(Node::Plain(Plain::Kern(KernKind::Explicit, size))))
             }
+            PlainNoad::Left(delimiter) => Ok(Piece::Fence(AtomKind::Open, delimiter)),
+            PlainNoad::Right(delimiter) => Ok(Piece::Fence(AtomKind::Close, delimiter)),
         }
     }
 
@@ -128,10 +150,11 @@ impl Setter<'_> {
             AtomKind::Over => self.overlined(alloc, style, inner),
             AtomKind::Under => self.underlined(alloc, style, inner),
             AtomKind::Center => self.vcentred(style, inner),
+            AtomKind::Radical(delimiter) => self.radical(alloc, style, delimiter, inner),
             AtomKind::Ord | AtomKind::Op(_) | AtomKind::Bin | AtomKind::Rel | AtomKind::Open => {
                 Ok(inner)
             }
-            AtomKind::Close | AtomKind::Punct | AtomKind::Inner => Ok(inner),
+            AtomKind::Close | AtomKind::Punct | AtomKind::Inner | AtomKind::Accent(_) => Ok(inner),
         }
     }
 
@@ -297,25 +320,76 @@ impl Setter<'_> {
         Ok(single(alloc, boxed(alloc, inner)?)?)
     }
 
-    /// A fraction with a line of this thickness, in sp, as a list, and what is told of it.
+    /// A fraction with a line of this thickness, in sp, and its delimiters, as a list, and what is told of it.
     #[tactic(auto, unfolding(crate::specs::Formula::lined_up))]
     fn lined_up(
         &self,
         alloc: Global,
         style: u8,
         thickness: i64,
+        head: FractionHead,
         upper: BoxNode,
         lower: BoxNode,
         report: &mut Bytes,
     ) -> Result<Nodes, MathError>
         requires setter { IsSetter self.now }
         requires thickness { unsigned_abs thickness ≤ 2 ^ 31 }
-        ensures made { IfOk result (λ list. spec.lined_up (math_in self.now) style thickness upper lower report.old ≡ Ok (list, report.new)) }
-        ensures error { IfErr result (λ e. e ≢ OutOfMemory → spec.lined_up (math_in self.now) style thickness upper lower report.old ≡ Err e) }
+        ensures made { IfOk result (λ list. spec.lined_up (math_in self.now) style thickness head upper lower report.old ≡ Ok (list, report.new)) }
+        ensures error { IfErr result (λ e. e ≢ OutOfMemory → spec.lined_up (math_in self.now) style thickness head upper lower report.old ≡ Err e) }
     {
         let (upper, lower) = self.even_boxes(alloc, upper, lower, report)?;
-        let inner = self.fraction_of(alloc, style, thickness, upper, lower)?;
+        let inner = self.fraction_of(alloc, style, thickness, head, upper, lower)?;
         Ok(single(alloc, boxed(alloc, inner)?)?)
+    }
+
+    /// The kern that moves the accent of a character, in sp, if its font has it.
+    fn skew_if(&self, found: Option<Character>) -> Option<i64>
+        ensures value { result ≡ spec.skew_if (math_in self.now) found }
+        ensures near { IfSome result (λ skew. unsigned_abs skew ≤ 2 ^ 31) }
+    {
+        match found {
+            Some(character) => Some(self.skew_of(character)),
+            None => None,
+        }
+    }
+
+    /// The kern that moves the accent of a nucleus, in sp, and what is told of it; `None` where this is a character that its font
+    /// lacks.
+    fn nucleus_skew(
+        &self,
+        style: u8,
+        nucleus: &Field,
+        report: &mut Bytes,
+    ) -> Result<Option<i64>, MathError>
+        ensures made { IfOk result (λ skew. spec.nucleus_skew (math_in self.now) style (part_of nucleus.now) report.old ≡ Ok (skew, report.new)) }
+        ensures near { IfOk result (λ found. IfSome found (λ skew. unsigned_abs skew ≤ 2 ^ 31)) }
+        ensures error { IfErr result (λ e. e ≢ OutOfMemory → spec.nucleus_skew (math_in self.now) style (part_of nucleus.now) report.old ≡ Err e) }
+    {
+        match nucleus {
+            Field::Character(character) => {
+                let found = self.fetched(style, *character, report)?;
+                Ok(self.skew_if(found))
+            }
+            Field::Empty | Field::Packed(_, _) | Field::Formula(_) => Ok(Some(0)),
+        }
+    }
+
+    /// A box below an accent, as a nucleus.
+    #[tactic(auto, unfolding(crate::specs::Formula::accent_nucleus))]
+    fn accent_nucleus(
+        &self,
+        alloc: Global,
+        place: AccentPlace,
+        inner: BoxNode,
+    ) -> Result<Nucleus, MathError>
+        requires setter { IsSetter self.now }
+        requires place { unsigned_abs place.down ≤ 2 ^ 34 }
+        ensures made { IfOk result (λ made. spec.accent_nucleus (math_in self.now) place inner ≡ Ok made) }
+        ensures near { IfOk result IsNucleus }
+        ensures error { IfErr result (λ e. e ≢ OutOfMemory → spec.accent_nucleus (math_in self.now) place inner ≡ Err e) }
+    {
+        let inner = self.accent_box(alloc, place, inner)?;
+        Ok(box_nucleus(alloc, 0, inner)?)
     }
 }
 
@@ -343,7 +417,8 @@ impl Setter<'_> {
         let entries = entries_of(alloc, style, list)?;
         let entries = self.composed(alloc, entries)?;
         let pieces = self.pieces_of(alloc, levels - 1, entries.as_slice(), report)?;
-        self.spaced(alloc, penalties, style, stacked(alloc, pieces)?)
+        let fences = self.fences_of(style, pieces.as_slice());
+        self.spaced(alloc, penalties, fences, style, stacked(alloc, pieces)?)
     }
 
     /// What entries become, in order, and what is told of them.
@@ -417,15 +492,16 @@ impl Setter<'_> {
         report: &mut Bytes,
     ) -> Result<Nodes, MathError>
         requires { IsSetter self.now }
-        ensures made { IfOk result (λ list. spec.fraction_items (spec.inward levels (math_in self.now)) (math_in self.now) style (thickness_in (math_in self.now) style fraction.now.thickness) (gathered fraction.now.numerator) (gathered fraction.now.denominator) report.old ≡ Ok (list, report.new)) }
-        ensures error { IfErr result (λ e. e ≢ OutOfMemory → spec.fraction_items (spec.inward levels (math_in self.now)) (math_in self.now) style (thickness_in (math_in self.now) style fraction.now.thickness) (gathered fraction.now.numerator) (gathered fraction.now.denominator) report.old ≡ Err e) }
+        ensures made { IfOk result (λ list. spec.fraction_items (spec.inward levels (math_in self.now)) (math_in self.now) style fraction.now.head (gathered fraction.now.numerator) (gathered fraction.now.denominator) report.old ≡ Ok (list, report.new)) }
+        ensures error { IfErr result (λ e. e ≢ OutOfMemory → spec.fraction_items (spec.inward levels (math_in self.now)) (math_in self.now) style fraction.now.head (gathered fraction.now.numerator) (gathered fraction.now.denominator) report.old ≡ Err e) }
     {
-        let thickness = self.thickness_of(style, fraction.thickness);
+        let head = fraction.head;
+        let thickness = self.thickness_of(style, head.thickness);
         let upper = numerator_style(style);
         let upper = self.cleaned_inner(alloc, levels, upper, &fraction.numerator, report)?;
         let lower = denominator_style(style);
         let lower = self.cleaned_inner(alloc, levels, lower, &fraction.denominator, report)?;
-        self.lined_up(alloc, style, thickness, upper, lower, report)
+        self.lined_up(alloc, style, thickness, head, upper, lower, report)
     }
 
     /// What an atom of this kind becomes, and what is told of it.
@@ -452,8 +528,11 @@ impl Setter<'_> {
                     self.scripted_operator(alloc, levels, style, atom, report)
                 }
             }
-            AtomKind::Over | AtomKind::Under | AtomKind::Center => {
+            AtomKind::Over | AtomKind::Under | AtomKind::Center | AtomKind::Radical(_) => {
                 self.boxed_list(alloc, levels, style, kind, atom, report)
+            }
+            AtomKind::Accent(accent) => {
+                self.accented(alloc, levels, style, accent, atom, report)
             }
             AtomKind::Ord
             | AtomKind::Bin
@@ -513,6 +592,185 @@ impl Setter<'_> {
             &atom.nucleus,
             report,
         )?;
+        self.with_scripts(alloc, levels, style, nucleus, atom, report)
+    }
+
+    /// What an atom becomes that has this accent, and what is told of it.
+    #[cycle(set)]
+    #[tactic(auto, unfolding(crate::specs::Formula::accented))]
+    fn accented(
+        &self,
+        alloc: Global,
+        levels: u16,
+        style: u8,
+        accent: MathCharacter,
+        atom: &Atom,
+        report: &mut Bytes,
+    ) -> Result<Nodes, MathError>
+        requires { IsSetter self.now }
+        ensures made { IfOk result (λ list. spec.accented (spec.inward levels (math_in self.now)) (math_in self.now) style accent (part_of atom.now.nucleus) (part_of atom.now.superscript) (part_of atom.now.subscript) report.old ≡ Ok (list, report.new)) }
+        ensures error { IfErr result (λ e. e ≢ OutOfMemory → spec.accented (spec.inward levels (math_in self.now)) (math_in self.now) style accent (part_of atom.now.nucleus) (part_of atom.now.superscript) (part_of atom.now.subscript) report.old ≡ Err e) }
+    {
+        let found = self.fetched(style, accent, report)?;
+        match found {
+            None => self.scripted(alloc, levels, style, false, atom, report),
+            Some(found) => self.accent_over(alloc, levels, style, atom, found, report),
+        }
+    }
+
+    /// The same where the accent's font has this character for it.
+    #[cycle(set)]
+    #[tactic(auto, unfolding(crate::specs::Formula::accent_over))]
+    fn accent_over(
+        &self,
+        alloc: Global,
+        levels: u16,
+        style: u8,
+        atom: &Atom,
+        found: Character,
+        report: &mut Bytes,
+    ) -> Result<Nodes, MathError>
+        requires { IsSetter self.now }
+        ensures made { IfOk result (λ list. spec.accent_over (spec.inward levels (math_in self.now)) (math_in self.now) style (part_of atom.now.nucleus) (part_of atom.now.superscript) (part_of atom.now.subscript) found report.old ≡ Ok (list, report.new)) }
+        ensures error { IfErr result (λ e. e ≢ OutOfMemory → spec.accent_over (spec.inward levels (math_in self.now)) (math_in self.now) style (part_of atom.now.nucleus) (part_of atom.now.superscript) (part_of atom.now.subscript) found report.old ≡ Err e) }
+    {
+        match self.nucleus_skew(style, &atom.nucleus, report)? {
+            Some(skew) => self.accent_moved(alloc, levels, style, atom, found, skew, report),
+            None => self.accent_alone(alloc, levels, style, atom, found, report),
+        }
+    }
+
+    /// The same with the accent moved by so many sp.
+    #[cycle(set)]
+    #[tactic(auto, unfolding(crate::specs::Formula::accent_moved))]
+    fn accent_moved(
+        &self,
+        alloc: Global,
+        levels: u16,
+        style: u8,
+        atom: &Atom,
+        found: Character,
+        skew: i64,
+        report: &mut Bytes,
+    ) -> Result<Nodes, MathError>
+        requires setter { IsSetter self.now }
+        requires skew { unsigned_abs skew ≤ 2 ^ 31 }
+        ensures made { IfOk result (λ list. spec.accent_moved (spec.inward levels (math_in self.now)) (math_in self.now) style (part_of atom.now.nucleus) (part_of atom.now.superscript) (part_of atom.now.subscript) found skew report.old ≡ Ok (list, report.new)) }
+        ensures error { IfErr result (λ e. e ≢ OutOfMemory → spec.accent_moved (spec.inward levels (math_in self.now)) (math_in self.now) style (part_of atom.now.nucleus) (part_of atom.now.superscript) (part_of atom.now.subscript) found skew report.old ≡ Err e) }
+    {
+        let own = cramped(style);
+        let inner = self.cleaned(alloc, levels, own, &atom.nucleus, report)?;
+        let place = self.accent_place(found, skew, &inner);
+        self.accent_on(alloc, levels, style, atom, place, inner, report)
+    }
+
+    /// The same where no character is left of the nucleus: the accent stands on nothing.
+    #[cycle(set)]
+    #[tactic(auto, unfolding(crate::specs::Formula::accent_alone))]
+    fn accent_alone(
+        &self,
+        alloc: Global,
+        levels: u16,
+        style: u8,
+        atom: &Atom,
+        found: Character,
+        report: &mut Bytes,
+    ) -> Result<Nodes, MathError>
+        requires { IsSetter self.now }
+        ensures made { IfOk result (λ list. spec.accent_alone (spec.inward levels (math_in self.now)) (math_in self.now) style (part_of atom.now.superscript) (part_of atom.now.subscript) found report.old ≡ Ok (list, report.new)) }
+        ensures error { IfErr result (λ e. e ≢ OutOfMemory → spec.accent_alone (spec.inward levels (math_in self.now)) (math_in self.now) style (part_of atom.now.superscript) (part_of atom.now.subscript) found report.old ≡ Err e) }
+    {
+        let inner = self.cleaned_list(alloc, Nodes::new(alloc))?;
+        let place = self.accent_place(found, 0, &inner);
+        self.accent_before(alloc, levels, style, atom, place, inner, report)
+    }
+
+    /// The same with the accent at this place on this box.
+    #[cycle(set)]
+    fn accent_on(
+        &self,
+        alloc: Global,
+        levels: u16,
+        style: u8,
+        atom: &Atom,
+        place: AccentPlace,
+        inner: BoxNode,
+        report: &mut Bytes,
+    ) -> Result<Nodes, MathError>
+        requires setter { IsSetter self.now }
+        requires place { unsigned_abs place.down ≤ 2 ^ 31 }
+        ensures made { IfOk result (λ list. spec.accent_on (spec.inward levels (math_in self.now)) (math_in self.now) style (part_of atom.now.nucleus) (part_of atom.now.superscript) (part_of atom.now.subscript) place inner report.old ≡ Ok (list, report.new)) }
+        ensures error { IfErr result (λ e. e ≢ OutOfMemory → spec.accent_on (spec.inward levels (math_in self.now)) (math_in self.now) style (part_of atom.now.nucleus) (part_of atom.now.superscript) (part_of atom.now.subscript) place inner report.old ≡ Err e) }
+    {
+        if takes_scripts(atom) {
+            self.accent_with(alloc, levels, style, atom, place, &inner, report)
+        } else {
+            self.accent_before(alloc, levels, style, atom, place, inner, report)
+        }
+    }
+
+    /// The same where the scripts of the atom stand below the accent too.
+    #[cycle(set)]
+    #[tactic(auto, unfolding(crate::specs::Formula::accent_with))]
+    fn accent_with(
+        &self,
+        alloc: Global,
+        levels: u16,
+        style: u8,
+        atom: &Atom,
+        place: AccentPlace,
+        inner: &BoxNode,
+        report: &mut Bytes,
+    ) -> Result<Nodes, MathError>
+        requires setter { IsSetter self.now }
+        requires place { unsigned_abs place.down ≤ 2 ^ 31 }
+        ensures made { IfOk result (λ list. spec.accent_with (spec.inward levels (math_in self.now)) (math_in self.now) style (part_of atom.now.nucleus) (part_of atom.now.superscript) (part_of atom.now.subscript) place inner.now report.old ≡ Ok (list, report.new)) }
+        ensures error { IfErr result (λ e. e ≢ OutOfMemory → spec.accent_with (spec.inward levels (math_in self.now)) (math_in self.now) style (part_of atom.now.nucleus) (part_of atom.now.superscript) (part_of atom.now.subscript) place inner.now report.old ≡ Err e) }
+    {
+        let grown = self.scripted_box(alloc, levels, style, atom, report)?;
+        let place = place_on(place, inner, &grown);
+        let Nucleus { nodes, .. } = self.accent_nucleus(alloc, place, grown)?;
+        Ok(nodes)
+    }
+
+    /// An atom without its accent, in a box, and what is told of it.
+    #[cycle(set)]
+    #[tactic(auto, unfolding(crate::specs::Formula::scripted_box))]
+    fn scripted_box(
+        &self,
+        alloc: Global,
+        levels: u16,
+        style: u8,
+        atom: &Atom,
+        report: &mut Bytes,
+    ) -> Result<BoxNode, MathError>
+        requires { IsSetter self.now }
+        ensures made { IfOk result (λ made. spec.scripted_box (spec.inward levels (math_in self.now)) (math_in self.now) style (part_of atom.now.nucleus) (part_of atom.now.superscript) (part_of atom.now.subscript) report.old ≡ Ok (made, report.new)) }
+        ensures error { IfErr result (λ e. e ≢ OutOfMemory → spec.scripted_box (spec.inward levels (math_in self.now)) (math_in self.now) style (part_of atom.now.nucleus) (part_of atom.now.superscript) (part_of atom.now.subscript) report.old ≡ Err e) }
+    {
+        let list = self.scripted(alloc, levels, style, false, atom, report)?;
+        self.cleaned_list(alloc, list)
+    }
+
+    /// A box below an accent, with the scripts of its atom, if it has some, behind both.
+    #[cycle(set)]
+    #[tactic(auto, unfolding(crate::specs::Formula::accent_before))]
+    fn accent_before(
+        &self,
+        alloc: Global,
+        levels: u16,
+        style: u8,
+        atom: &Atom,
+        place: AccentPlace,
+        inner: BoxNode,
+        report: &mut Bytes,
+    ) -> Result<Nodes, MathError>
+        requires setter { IsSetter self.now }
+        requires place { unsigned_abs place.down ≤ 2 ^ 31 }
+        ensures made { IfOk result (λ list. spec.accent_before (spec.inward levels (math_in self.now)) (math_in self.now) style (part_of atom.now.superscript) (part_of atom.now.subscript) place inner report.old ≡ Ok (list, report.new)) }
+        ensures error { IfErr result (λ e. e ≢ OutOfMemory → spec.accent_before (spec.inward levels (math_in self.now)) (math_in self.now) style (part_of atom.now.superscript) (part_of atom.now.subscript) place inner report.old ≡ Err e) }
+    {
+        let nucleus = self.accent_nucleus(alloc, place, inner)?;
         self.with_scripts(alloc, levels, style, nucleus, atom, report)
     }
 

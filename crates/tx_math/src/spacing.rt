@@ -1,19 +1,21 @@
 //! Spaces and penalties between atoms (TeX: The Program, sections 760 to 767).
-ghost use Rattle.std.specs.Prelude.{◌≡◌, ◌≢◌, ◌<◌, ◌++◌, length, None, IfOk, IfErr, OnOk, Ok, Err};
+ghost use Rattle.std.specs.Prelude.{◌≡◌, ◌≢◌, ◌<◌, ◌≤◌, ◌++◌, ◌^◌, length, unsigned_abs, None, IfOk, IfErr, OnOk, Ok, Err};
 ghost use Rattle.tx_node.specs.Nodes.{item_of};
 ghost use Rattle.tx_math.specs.Boxes as boxes;
 ghost use Rattle.tx_math.specs.Converting.{piece_in, pieces_in};
 ghost use Rattle.tx_math.specs.Setters.{math_in};
 ghost use Rattle.tx_math.specs.Spacing as spec;
+ghost use Rattle.tx_math.specs.Spacing.{fence};
 ghost use Rattle.tx_math.specs.declared.error.MathError.TheVariants.{OutOfMemory};
 
+use crate::boxes::single;
 use crate::error::MathError;
 use crate::params::MathParams;
-use crate::piece::{Piece, Spaces};
+use crate::piece::{Fences, Piece, Spaces};
 use crate::setter::Setter;
 use std::alloc::Global;
 use tx_list::Stack;
-use tx_mlist::AtomKind;
+use tx_mlist::{AtomKind, Delimiter};
 use tx_node::{Node, Nodes, Plain};
 use tx_num::Glue;
 
@@ -24,6 +26,7 @@ fn class_number(kind: AtomKind) -> usize
 {
     match kind {
         AtomKind::Ord | AtomKind::Over | AtomKind::Under | AtomKind::Center => 0,
+        AtomKind::Radical(_) | AtomKind::Accent(_) => 0,
         AtomKind::Op(_) => 1,
         AtomKind::Bin => 2,
         AtomKind::Rel => 3,
@@ -41,6 +44,7 @@ fn spaces_behind(kind: AtomKind) -> &'static [u8]
 {
     match kind {
         AtomKind::Ord | AtomKind::Over | AtomKind::Under | AtomKind::Center => b"02340001",
+        AtomKind::Radical(_) | AtomKind::Accent(_) => b"02340001",
         AtomKind::Op(_) => b"22*40001",
         AtomKind::Bin => b"33**3**3",
         AtomKind::Rel => b"44*04004",
@@ -93,6 +97,7 @@ fn penalty_of(params: &MathParams, kind: AtomKind) -> i32
             10_000
         }
         AtomKind::Inner | AtomKind::Over | AtomKind::Under | AtomKind::Center => 10_000,
+        AtomKind::Radical(_) | AtomKind::Accent(_) => 10_000,
     }
 }
 
@@ -112,6 +117,7 @@ fn is_rel(kind: AtomKind) -> bool
         AtomKind::Ord | AtomKind::Op(_) | AtomKind::Bin | AtomKind::Open | AtomKind::Close => false,
         AtomKind::Punct | AtomKind::Inner => false,
         AtomKind::Over | AtomKind::Under | AtomKind::Center => false,
+        AtomKind::Radical(_) | AtomKind::Accent(_) => false,
     }
 }
 
@@ -121,6 +127,7 @@ fn piece_takes_penalty(piece: &Piece) -> bool
 {
     match piece {
         Piece::Noad(kind, _) => !is_rel(*kind),
+        Piece::Fence(kind, _) => !is_rel(*kind),
         Piece::Restyled(_) => true,
         Piece::Lone(node) => !is_penalty(node),
     }
@@ -210,20 +217,53 @@ impl Setter<'_> {
         append_penalty(list, self.params, penalties, kind, rest)
     }
 
+    /// Puts a delimiter that is an atom of this kind at the end of a list, with the space before it and the penalty behind it.
+    fn append_fence(
+        &self,
+        alloc: Global,
+        list: &mut Nodes,
+        penalties: bool,
+        fences: Fences,
+        spaces: Spaces,
+        kind: AtomKind,
+        delimiter: Delimiter,
+        rest: &Stack<Piece>,
+    ) -> Result<(), MathError>
+        requires { unsigned_abs fences.size ≤ 2 ^ 59 }
+        ensures made { OnOk result (boxes.with_more list.old (spec.piece_items (math_in self.now) penalties fences spaces (fence kind delimiter) (pieces_in rest.now)) ≡ Ok list.new) }
+        ensures error { IfErr result (λ e. e ≢ OutOfMemory → spec.piece_items (math_in self.now) penalties fences spaces (fence kind delimiter) (pieces_in rest.now) ≡ Err e) }
+    {
+        let node = self.delimiter_item(alloc, fences.style, delimiter, fences.size)?;
+        let nodes = single(alloc, node)?;
+        self.append_noad(list, penalties, spaces, kind, nodes, rest)
+    }
+
     /// Puts a piece at the end of a list, and answers in which style and behind what the next one stands.
     fn append_piece(
         &self,
+        alloc: Global,
         list: &mut Nodes,
         penalties: bool,
+        fences: Fences,
         spaces: Spaces,
         piece: Piece,
         rest: &Stack<Piece>,
     ) -> Result<Spaces, MathError>
-        ensures made { OnOk result (boxes.with_more list.old (spec.piece_items (math_in self.now) penalties spaces (piece_in piece) (pieces_in rest.now)) ≡ Ok list.new) }
+        requires { unsigned_abs fences.size ≤ 2 ^ 59 }
+        ensures made { OnOk result (boxes.with_more list.old (spec.piece_items (math_in self.now) penalties fences spaces (piece_in piece) (pieces_in rest.now)) ≡ Ok list.new) }
         ensures next { IfOk result (λ next. next ≡ spec.spaces_after spaces (piece_in piece)) }
-        ensures error { IfErr result (λ e. e ≢ OutOfMemory → spec.piece_items (math_in self.now) penalties spaces (piece_in piece) (pieces_in rest.now) ≡ Err e) }
+        ensures error { IfErr result (λ e. e ≢ OutOfMemory → spec.piece_items (math_in self.now) penalties fences spaces (piece_in piece) (pieces_in rest.now) ≡ Err e) }
     {
         match piece {
+            Piece::Fence(kind, delimiter) => {
+                self.append_fence(
+                    alloc, list, penalties, fences, spaces, kind, delimiter, rest,
+                )?;
+                Ok(Spaces {
+                    style: spaces.style,
+                    before: Some(kind),
+                })
+            }
             Piece::Noad(kind, nodes) => {
                 self.append_noad(list, penalties, spaces, kind, nodes, rest)?;
                 Ok(Spaces {
@@ -242,17 +282,19 @@ impl Setter<'_> {
         }
     }
 
-    /// The list of pieces, the first of which is set in a style, with penalties or without.
+    /// The list of pieces, the first of which is set in a style, with penalties or without, and with delimiters so tall.
     #[tactic(auto, using(crate::proofs::Telling::spaced_nothing, crate::proofs::Telling::spaced_more, crate::proofs::Telling::spaced_stopped, crate::proofs::Telling::spaced_over))]
     pub fn spaced(
         &self,
         alloc: Global,
         penalties: bool,
+        fences: Fences,
         style: u8,
         pieces: Stack<Piece>,
     ) -> Result<Nodes, MathError>
-        ensures made { IfOk result (λ list. spec.spaced (math_in self.now) penalties (spec.spaces_of style None) (pieces_in pieces) ≡ Ok list) }
-        ensures error { IfErr result (λ e. e ≢ OutOfMemory → spec.spaced (math_in self.now) penalties (spec.spaces_of style None) (pieces_in pieces) ≡ Err e) }
+        requires { unsigned_abs fences.size ≤ 2 ^ 59 }
+        ensures made { IfOk result (λ list. spec.spaced (math_in self.now) penalties fences (spec.spaces_of style None) (pieces_in pieces) ≡ Ok list) }
+        ensures error { IfErr result (λ e. e ≢ OutOfMemory → spec.spaced (math_in self.now) penalties fences (spec.spaces_of style None) (pieces_in pieces) ≡ Err e) }
     {
         let mut rest = pieces;
         let mut list = Nodes::new(alloc);
@@ -261,7 +303,7 @@ impl Setter<'_> {
             before: None,
         };
         while let Some(piece) = rest.pop() {
-            spaces = self.append_piece(&mut list, penalties, spaces, piece, &rest)?;
+            spaces = self.append_piece(alloc, &mut list, penalties, fences, spaces, piece, &rest)?;
         }
         Ok(list)
     }

@@ -35,21 +35,21 @@ field-back (Formula list) = ap (λ xs. Formula xs) (list-back list)
 abbrev atom_from : AtomFields → MathItem → AtomFields
 atom_from other (atom kind nucleus superscript subscript) =
     record { kind = kind; nucleus = field_from nucleus; superscript = field_from superscript; subscript = field_from subscript }
-atom_from other (fraction thickness above below) = other
+atom_from other (fraction head above below) = other
 atom_from other (choice display text script script_script) = other
 atom_from other (small s) = other
 atom_from other (material i) = other
 
 abbrev fraction_from : FractionFields → MathItem → FractionFields
 fraction_from other (atom kind nucleus superscript subscript) = other
-fraction_from other (fraction thickness above below) = record { thickness = thickness; numerator = listed above; denominator = listed below }
+fraction_from other (fraction head above below) = record { head = head; numerator = listed above; denominator = listed below }
 fraction_from other (choice display text script script_script) = other
 fraction_from other (small s) = other
 fraction_from other (material i) = other
 
 abbrev choice_from : ChoiceFields → MathItem → ChoiceFields
 choice_from other (atom kind nucleus superscript subscript) = other
-choice_from other (fraction thickness above below) = other
+choice_from other (fraction head above below) = other
 choice_from other (choice display text script script_script) =
     record { display = listed display; text = listed text; script = listed script; script_script = listed script_script }
 choice_from other (small s) = other
@@ -60,7 +60,7 @@ atom-back other a =
     λ i. record { kind = a.kind; nucleus = field-back a.nucleus i; superscript = field-back a.superscript i; subscript = field-back a.subscript i }
 
 fraction-back : (other f : FractionFields) → fraction_from other (fraction_of f) ≡ f
-fraction-back other f = λ i. record { thickness = f.thickness; numerator = list-back f.numerator i; denominator = list-back f.denominator i }
+fraction-back other f = λ i. record { head = f.head; numerator = list-back f.numerator i; denominator = list-back f.denominator i }
 
 choice-back : (other c : ChoiceFields) → choice_from other (choice_of c) ≡ c
 choice-back other c =

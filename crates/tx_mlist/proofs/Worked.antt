@@ -1,12 +1,14 @@
 -- The definitions of how lists are built, at small ones that were worked by hand (The TeXbook, chapters 17, 18 and 26).
 use Rattle.std.proofs.Common.{◌≡◌, ℕ, pos, negsuc, true, false, [], ◌∷◌, None, Some, Ok, refl}
 use Rattle.std.specs.Prelude.{◌/◌}
-use Rattle.tx_mlist.specs.declared.kinds.AtomKind.TheVariants.{Ord, Op, Bin, Rel, Open}
+use Rattle.tx_mlist.specs.declared.kinds.AtomKind.TheVariants.{Ord, Op, Bin, Rel, Open, Inner, Accent}
+use Rattle.tx_mlist.specs.declared.kinds.Delimiter.{Delimiter}
 use Rattle.tx_mlist.specs.declared.kinds.Limits.TheVariants.{Displayed, Always}
 use Rattle.tx_mlist.specs.declared.kinds.MathCharacter.{MathCharacter}
-use Rattle.tx_mlist.specs.declared.kinds.Place.TheVariants.{Superscript, Subscript}
-use Rattle.tx_mlist.specs.Building.{letter_of, kind_of, for_script, is_second, filled, limited, ends_with_operator, finished, part_of_group}
-use Rattle.tx_mlist.specs.Items.{MathItem, atom, fraction, empty, letter, formula, nothing, followed}
+use Rattle.tx_mlist.specs.declared.kinds.Place.TheVariants.{Nucleus, Superscript, Subscript}
+use Rattle.tx_mlist.specs.declared.plain.PlainNoad.TheVariants.{Left, Right}
+use Rattle.tx_mlist.specs.Building.{letter_of, delimiter_of, plain_head, kind_of, bare, for_script, is_second, filled, limited, ends_with_operator, finished, part_of_group, grouped, delimited}
+use Rattle.tx_mlist.specs.Items.{MathItem, atom, fraction, small, empty, letter, formula, nothing, followed}
 
 abbrev character : ℕ → ℕ → MathCharacter
 character family code = record { family = family; code = code }
@@ -68,10 +70,13 @@ limits_of_ord : ends_with_operator (x ∷ []) ≡ false
 limits_of_ord = refl
 
 -- $x\over x$ is a fraction, $x\atop$ too; $x$ is none
-over_x : finished (Some (record { thickness = None; numerator = x ∷ [] })) (x ∷ []) ≡ Ok (fraction None (followed x nothing) (followed x nothing) ∷ [])
+abbrev no_delimiter : Delimiter
+no_delimiter = record { small = character 0 0; large = character 0 0 }
+
+over_x : finished (Some (record { head = plain_head None; numerator = x ∷ [] })) (x ∷ []) ≡ Ok (fraction (plain_head None) (followed x nothing) (followed x nothing) ∷ [])
 over_x = refl
 
-atop_nothing : finished (Some (record { thickness = Some (pos 0); numerator = x ∷ [] })) [] ≡ Ok (fraction (Some (pos 0)) (followed x nothing) nothing ∷ [])
+atop_nothing : finished (Some (record { head = plain_head (Some (pos 0)); numerator = x ∷ [] })) [] ≡ Ok (fraction (plain_head (Some (pos 0))) (followed x nothing) nothing ∷ [])
 atop_nothing = refl
 
 no_fraction : finished None (x ∷ []) ≡ Ok (x ∷ [])
@@ -89,3 +94,32 @@ braced_nothing = refl
 
 braced_bin : part_of_group (atom Bin (letter (character 1 120)) empty empty ∷ []) ≡ Ok (formula (followed (atom Bin (letter (character 1 120)) empty empty) nothing))
 braced_bin = refl
+
+-- "4028300, \delimiter's left parenthesis of plain TeX: small character "28 of family 0, large character 0 of family 3; the number 0 is
+-- no delimiter
+parenthesis : delimiter_of 67273472 ≡ record { small = character 0 40; large = character 3 0 }
+parenthesis = refl
+
+full_stop : delimiter_of 0 ≡ no_delimiter
+full_stop = refl
+
+-- {\mathaccent"7013 x} is the accent itself, also with a script in it, but not as a superscript, nor where something stands beside it
+abbrev hat_x : MathItem
+hat_x = atom (Accent (character 0 19)) (letter (character 1 120)) (letter (character 0 50)) empty
+
+hat_alone : grouped Nucleus (hat_x ∷ []) (x ∷ bare Ord ∷ []) ≡ Ok (x ∷ hat_x ∷ [])
+hat_alone = refl
+
+hat_above : grouped Superscript (hat_x ∷ []) (x ∷ []) ≡ Ok (atom Ord (letter (character 1 120)) (formula (followed hat_x nothing)) empty ∷ [])
+hat_above = refl
+
+hat_beside : grouped Nucleus (hat_x ∷ x ∷ []) (bare Ord ∷ []) ≡ Ok (atom Ord (formula (followed hat_x (followed x nothing))) empty empty ∷ [])
+hat_beside = refl
+
+hat_in_bin : grouped Nucleus (hat_x ∷ []) (bare Bin ∷ []) ≡ Ok (atom Bin (formula (followed hat_x nothing)) empty empty ∷ [])
+hat_in_bin = refl
+
+-- \left.x\right. is an Inner
+left_x : delimited no_delimiter no_delimiter (x ∷ [])
+    ≡ Ok (atom Inner (formula (followed (small (Left no_delimiter)) (followed x (followed (small (Right no_delimiter)) nothing)))) empty empty)
+left_x = refl

@@ -18,7 +18,7 @@ choice_by ScriptScript list display text script script_script = choice display t
 
 abbrev pub choice_with : MathStyle → MathItems → MathItem → MathItem
 choice_with style list (atom kind nucleus superscript subscript) = atom kind nucleus superscript subscript
-choice_with style list (fraction thickness above below) = fraction thickness above below
+choice_with style list (fraction head above below) = fraction head above below
 choice_with style list (choice display text script script_script) = choice_by style list display text script script_script
 choice_with style list (small s) = small s
 choice_with style list (material i) = material i

@@ -1,12 +1,14 @@
 -- A code of lists of mathematics: a proof tells values apart by it. Each item is a row; the rows of an atom's parts stand behind it,
 -- and those of each list before a row that closes it.
-use Rattle.std.specs.Prelude.{◌≡◌, ℕ, zero, suc, ℤ, ◌⊎◌, List, [], ◌∷◌, Option}
+use Rattle.std.specs.Prelude.{◌≡◌, ℕ, zero, suc, ℤ, ◌⊎◌, List, [], ◌∷◌}
 use Rattle.std.proofs.Common.{refl, ap, inl, inr}
-use Rattle.std.specs.Coded.{Coded, code_by, coded×, coded⊎, coded_ℕ, coded_ℤ, coded_list, coded_option}
+use Rattle.std.specs.Coded.{Coded, code_by, coded×, coded⊎, coded_ℕ, coded_ℤ, coded_list}
 use Rattle.tx_node.specs.Codes.{box_code, item_code}
 use Rattle.tx_node.specs.Items.{Item, PackedBox}
 use Rattle.tx_mlist.specs.declared.kinds.AtomKind.{AtomKind}
 use Rattle.tx_mlist.specs.contracts.kinds.AtomKind as atom_kind
+use Rattle.tx_mlist.specs.declared.kinds.FractionHead.{FractionHead}
+use Rattle.tx_mlist.specs.contracts.kinds.FractionHead as fraction_head
 use Rattle.tx_mlist.specs.declared.kinds.MathCharacter.{MathCharacter}
 use Rattle.tx_mlist.specs.contracts.kinds.MathCharacter as math_character
 use Rattle.tx_mlist.specs.declared.plain.PlainNoad.{PlainNoad}
@@ -17,11 +19,11 @@ use Rattle.tx_mlist.specs.Items.{MathItem, Part, MathItems, atom, fraction, choi
 -- an atom, a small item, an item of horizontal lists, a fraction, a character, a box; or what closes a list (0), an empty part (1),
 -- a formula (2), a choice (3 and more)
 abbrev pub Row : Type 0
-Row = AtomKind ⊎ (PlainNoad ⊎ (Item ⊎ (Option ℤ ⊎ (MathCharacter ⊎ ((ℤ × PackedBox) ⊎ ℕ)))))
+Row = AtomKind ⊎ (PlainNoad ⊎ (Item ⊎ (FractionHead ⊎ (MathCharacter ⊎ ((ℤ × PackedBox) ⊎ ℕ)))))
 
 abbrev pub rows_code : Coded (List Row)
 rows_code =
-    coded_list (coded⊎ atom_kind.the_row.coded (coded⊎ plain_noad.the_row.coded (coded⊎ item_code (coded⊎ (coded_option coded_ℤ)
+    coded_list (coded⊎ atom_kind.the_row.coded (coded⊎ plain_noad.the_row.coded (coded⊎ item_code (coded⊎ fraction_head.the_row.coded
     (coded⊎ math_character.the_row.coded (coded⊎ (coded× coded_ℤ box_code) coded_ℕ))))))
 
 abbrev pub atom_row : AtomKind → Row
@@ -33,8 +35,8 @@ small_row s = inr (inl s)
 abbrev pub material_row : Item → Row
 material_row i = inr (inr (inl i))
 
-abbrev pub fraction_row : Option ℤ → Row
-fraction_row thickness = inr (inr (inr (inl thickness)))
+abbrev pub fraction_row : FractionHead → Row
+fraction_row head = inr (inr (inr (inl head)))
 
 abbrev pub letter_row : MathCharacter → Row
 letter_row c = inr (inr (inr (inr (inl c))))
@@ -57,7 +59,7 @@ abbrev mutual
   pub item_rows : MathItem → List Row → List Row
   item_rows (atom kind nucleus superscript subscript) behind =
       atom_row kind ∷ part_rows nucleus (part_rows superscript (part_rows subscript behind))
-  item_rows (fraction thickness above below) behind = fraction_row thickness ∷ rows above (closing ∷ rows below (closing ∷ behind))
+  item_rows (fraction head above below) behind = fraction_row head ∷ rows above (closing ∷ rows below (closing ∷ behind))
   item_rows (choice display text script script_script) behind =
       mark_row 3 ∷ rows display (closing ∷ rows text (closing ∷ rows script (closing ∷ rows script_script (closing ∷ behind))))
   item_rows (small s) behind = small_row s ∷ behind
@@ -103,9 +105,9 @@ with_item item read = (followed item read.0, read.1, read.2)
 abbrev pub with_part : Part → Read → Read
 with_part part read = (read.0, read.1, part ∷ read.2)
 
-abbrev pub with_fraction : Option ℤ → Read → Read
-with_fraction thickness read =
-    (followed (fraction thickness read.0 (top_of read.1)) (top_of (rest_of read.1)), rest_of (rest_of read.1), read.2)
+abbrev pub with_fraction : FractionHead → Read → Read
+with_fraction head read =
+    (followed (fraction head read.0 (top_of read.1)) (top_of (rest_of read.1)), rest_of (rest_of read.1), read.2)
 
 abbrev pub with_formula : Read → Read
 with_formula read = (top_of read.1, rest_of read.1, formula read.0 ∷ read.2)
@@ -130,7 +132,7 @@ abbrev pub with_row : Row → Read → Read
 with_row (inl kind) read = with_atom kind read
 with_row (inr (inl s)) read = with_item (small s) read
 with_row (inr (inr (inl i))) read = with_item (material i) read
-with_row (inr (inr (inr (inl thickness)))) read = with_fraction thickness read
+with_row (inr (inr (inr (inl head)))) read = with_fraction head read
 with_row (inr (inr (inr (inr (inl c))))) read = with_part (letter c) read
 with_row (inr (inr (inr (inr (inr (inl b)))))) read = with_part (packed b.0 b.1) read
 with_row (inr (inr (inr (inr (inr (inr n)))))) read = with_mark n read
@@ -152,8 +154,8 @@ mutual
       ap (with_row (atom_row kind))
       (part_back nucleus (part_rows superscript (part_rows subscript behind)) list around (superscript ∷ subscript ∷ parts)
       (part_back superscript (part_rows subscript behind) list around (subscript ∷ parts) (part_back subscript behind list around parts e)))
-  item_back (fraction thickness above below) behind list around parts e =
-      ap (with_row (fraction_row thickness))
+  item_back (fraction head above below) behind list around parts e =
+      ap (with_row (fraction_row head))
       (items_back above (closing ∷ rows below (closing ∷ behind)) (below ∷ list ∷ around) parts
       (ap (with_row closing) (items_back below (closing ∷ behind) (list ∷ around) parts (ap (with_row closing) e))))
   item_back (choice display text script script_script) behind list around parts e =

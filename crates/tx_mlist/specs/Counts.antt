@@ -10,7 +10,7 @@ abbrev mutual
 
   pub item_depth : MathItem → ℕ
   item_depth (atom kind nucleus superscript subscript) = max (part_depth nucleus) (max (part_depth superscript) (part_depth subscript))
-  item_depth (fraction thickness above below) = suc (max (depth_of above) (depth_of below))
+  item_depth (fraction head above below) = suc (max (depth_of above) (depth_of below))
   item_depth (choice display text script script_script) = suc (max (max (depth_of display) (depth_of text)) (max (depth_of script) (depth_of script_script)))
   item_depth (small s) = 0
   item_depth (material i) = 0
@@ -29,7 +29,7 @@ abbrev mutual
 
   pub item_count : MathItem → ℕ
   item_count (atom kind nucleus superscript subscript) = suc (part_count nucleus + part_count superscript + part_count subscript)
-  item_count (fraction thickness above below) = suc (count_of above + count_of below)
+  item_count (fraction head above below) = suc (count_of above + count_of below)
   item_count (choice display text script script_script) = suc (count_of display + count_of text + count_of script + count_of script_script)
   item_count (small s) = 1
   item_count (material i) = 1

@@ -1,17 +1,18 @@
 -- Lists of mathematics (TeX: The Program, sections 680 to 689; The TeXbook, chapters 17 and 26).
-use Rattle.std.specs.Prelude.{ℤ, List, [], ◌∷◌, Option}
+use Rattle.std.specs.Prelude.{ℤ, List, [], ◌∷◌}
 use Rattle.tx_node.specs.Items.{Item, PackedBox}
 use Rattle.tx_mlist.specs.declared.kinds.AtomKind.{AtomKind}
+use Rattle.tx_mlist.specs.declared.kinds.FractionHead.{FractionHead}
 use Rattle.tx_mlist.specs.declared.kinds.MathCharacter.{MathCharacter}
 use Rattle.tx_mlist.specs.declared.plain.PlainNoad.{PlainNoad}
 
--- an item of a list of mathematics: an atom, with its nucleus, superscript and subscript; a fraction, with its line and the lists
--- above and below it; the lists of \mathchoice, for display, text, script and scriptscript style; a style, \nonscript, glue or a kern
--- in mu; or an item that a horizontal list may hold, as it is
+-- an item of a list of mathematics: an atom, with its nucleus, superscript and subscript; a fraction, with its line, the delimiters on
+-- both sides, and the lists above and below the line; the lists of \mathchoice, for display, text, script and scriptscript style; a
+-- style, \nonscript, glue or a kern in mu, or a delimiter of \left or \right; or an item that a horizontal list may hold, as it is
 mutual
   pub data MathItem : Type 0 where
     atom : AtomKind → Part → Part → Part → MathItem
-    fraction : Option ℤ → MathItems → MathItems → MathItem
+    fraction : FractionHead → MathItems → MathItems → MathItem
     choice : MathItems → MathItems → MathItems → MathItems → MathItem
     small : PlainNoad → MathItem
     material : Item → MathItem

@@ -23,7 +23,7 @@ abbrev pub atom_of : AtomFields → MathItem
 atom_of a = atom a.kind (part_of a.nucleus) (part_of a.superscript) (part_of a.subscript)
 
 abbrev pub fraction_of : FractionFields → MathItem
-fraction_of f = fraction f.thickness (gathered f.numerator) (gathered f.denominator)
+fraction_of f = fraction f.head (gathered f.numerator) (gathered f.denominator)
 
 abbrev pub choice_of : ChoiceFields → MathItem
 choice_of c = choice (gathered c.display) (gathered c.text) (gathered c.script) (gathered c.script_script)

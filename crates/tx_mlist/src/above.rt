@@ -1,14 +1,15 @@
 //! Fractions that aren't finished (TeX: The Program, section 1181).
 ghost use Rattle.std.specs.Prelude.{◌≡◌, ◌↔◌, IsTrue};
 
+use crate::kinds::FractionHead;
 use crate::noad::InnerList;
-use crate::same::{same_inner, same_thickness};
+use crate::same::{same_head, same_inner};
 use std::alloc::AllocError;
 
-/// What stands above the line of a fraction that isn't finished: how thick the line is in sp, None for \over, and the list.
+/// What stands above the line of a fraction that isn't finished, and what the fraction is beside its lists.
 #[derive(Drop)]
 pub struct Above {
-    pub thickness: Option<i32>,
+    pub head: FractionHead,
     pub numerator: InnerList,
 }
 
@@ -17,8 +18,7 @@ impl Above {
     pub fn same(&self, other: &Above) -> bool
         ensures { IsTrue result ↔ (self.now ≡ other.now) }
     {
-        same_thickness(self.thickness, other.thickness)
-            && same_inner(&self.numerator, &other.numerator)
+        same_head(self.head, other.head) && same_inner(&self.numerator, &other.numerator)
     }
 }
 
@@ -28,7 +28,7 @@ impl Clone for Above {
 
     fn clone(&self) -> Result<Self, AllocError> {
         Ok(Above {
-            thickness: self.thickness,
+            head: self.head,
             numerator: self.numerator.clone()?,
         })
     }

@@ -1,4 +1,4 @@
-//! How lists are built (TeX: The Program, sections 1159, 1175 to 1177, and 1181 to 1186).
+//! How lists are built (TeX: The Program, sections 1159 and 1160, 1175 to 1177, 1181 to 1187, and 1191).
 ghost use Rattle.std.specs.Prelude.{◌≡◌, ◌≢◌, option_copied, option_map, IfOk, IfErr, OnOk, Ok, Err};
 ghost use Rattle.tx_mlist.specs.Building as spec;
 ghost use Rattle.tx_mlist.specs.Noads.{atom_of, math_of, mlist_of, part_of};
@@ -6,9 +6,10 @@ ghost use Rattle.tx_mlist.specs.declared.error.MlistError.TheVariants.{OutOfMemo
 
 use crate::above::Above;
 use crate::error::MlistError;
-use crate::kinds::{AtomKind, Limits, MathCharacter, Place};
+use crate::kinds::{AtomKind, Delimiter, FractionHead, Limits, MathCharacter, Place};
 use crate::mlist::Mlist;
 use crate::noad::{Atom, Field, Fraction, Noad};
+use crate::plain::PlainNoad;
 use std::alloc::{AllocError, Global};
 use std::rc::Rc;
 
@@ -24,6 +25,38 @@ pub fn letter_of(fam: i32, code: u16) -> MathCharacter
     MathCharacter {
         family,
         code: (code % 256) as u8,
+    }
+}
+
+/// A character by numbers of which only so much counts as families and codes have.
+fn character_by(family: u32, code: u32) -> MathCharacter
+    ensures { result ≡ spec.character_by family code }
+{
+    MathCharacter {
+        family: (family % 16) as u8,
+        code: (code % 256) as u8,
+    }
+}
+
+/// The delimiter of a number: 24 bits of it count, in which stand the small family and character, and then the large ones. That of
+/// 0 is none.
+pub fn delimiter_of(number: u32) -> Delimiter
+    ensures { result ≡ spec.delimiter_of number }
+{
+    Delimiter {
+        small: character_by(number / 1_048_576, number / 4096),
+        large: character_by(number / 256, number),
+    }
+}
+
+/// A fraction beside its lists whose line is so thick, in sp, None where the fonts tell it, and which has no delimiters.
+pub fn plain_head(thickness: Option<i32>) -> FractionHead
+    ensures { result ≡ spec.plain_head thickness }
+{
+    FractionHead {
+        thickness,
+        left: delimiter_of(0),
+        right: delimiter_of(0),
     }
 }
 
@@ -52,6 +85,22 @@ impl AtomKind {
             AtomKind::Op(_) | AtomKind::Bin | AtomKind::Rel | AtomKind::Open => false,
             AtomKind::Close | AtomKind::Punct | AtomKind::Inner => false,
             AtomKind::Over | AtomKind::Under | AtomKind::Center => false,
+            AtomKind::Radical(_) | AtomKind::Accent(_) => false,
+        }
+    }
+
+    /// Whether it has an accent.
+    fn is_accent(self) -> bool
+        ensures { result ≡ spec.is_accent self }
+    {
+        match self {
+            AtomKind::Accent(_) => true,
+            AtomKind::Ord | AtomKind::Op(_) | AtomKind::Bin | AtomKind::Rel | AtomKind::Open => {
+                false
+            }
+            AtomKind::Close | AtomKind::Punct | AtomKind::Inner => false,
+            AtomKind::Over | AtomKind::Under | AtomKind::Center => false,
+            AtomKind::Radical(_) => false,
         }
     }
 }
@@ -140,6 +189,7 @@ fn is_op(kind: AtomKind) -> bool
         AtomKind::Ord | AtomKind::Bin | AtomKind::Rel | AtomKind::Open | AtomKind::Close => false,
         AtomKind::Punct | AtomKind::Inner => false,
         AtomKind::Over | AtomKind::Under | AtomKind::Center => false,
+        AtomKind::Radical(_) | AtomKind::Accent(_) => false,
     }
 }
 
@@ -184,6 +234,43 @@ fn nucleus_in(list: &[Noad]) -> Result<Option<Field>, AllocError>
         [] => Ok(None),
         [only] => lone_nucleus(only),
         [_, _, ..] => Ok(None),
+    }
+}
+
+/// An atom that has an accent, None of other noads. Its only error is want of memory.
+fn accented(noad: &Noad) -> Result<Option<Noad>, AllocError>
+    ensures { IfOk result (λ found. option_map math_of found ≡ spec.accented (math_of noad.now)) }
+{
+    match noad {
+        Noad::Atom(atom) => {
+            if atom.kind.is_accent() {
+                Ok(Some(Noad::Atom(atom.clone()?)))
+            } else {
+                Ok(None)
+            }
+        }
+        Noad::Fraction(_) | Noad::Choice(_) | Noad::Plain(_) | Noad::Node(_) => Ok(None),
+    }
+}
+
+/// An atom that has an accent and is alone in a list, None of other lists. Its only error is want of memory.
+fn lone_accent(list: &[Noad]) -> Result<Option<Noad>, AllocError>
+    ensures { IfOk result (λ found. option_map math_of found ≡ spec.lone_accent (mlist_of list.now)) }
+{
+    match list {
+        [] => Ok(None),
+        [only] => accented(only),
+        [_, _, ..] => Ok(None),
+    }
+}
+
+/// Whether a place is that of a nucleus.
+fn is_nucleus(place: Place) -> bool
+    ensures { result ≡ spec.is_nucleus place }
+{
+    match place {
+        Place::Nucleus => true,
+        Place::Superscript | Place::Subscript => false,
     }
 }
 
@@ -251,14 +338,9 @@ impl Mlist {
     {
         match above {
             None => Ok(self),
-            Some(
-                Above {
-                    thickness,
-                    numerator,
-                },
-            ) => {
+            Some(Above { head, numerator }) => {
                 let fraction = Fraction {
-                    thickness,
+                    head,
                     numerator,
                     denominator: self.into_inner()?,
                 };
@@ -279,4 +361,97 @@ impl Mlist {
             None => Ok(Field::Formula(self.into_inner()?)),
         }
     }
+
+    /// Whether the last noad is an Ord.
+    fn ends_with_ord(&self) -> bool
+        ensures { result ≡ spec.ends_with_ord self.now }
+    {
+        match self.last() {
+            Some(Noad::Atom(atom)) => atom.kind.is_ord(),
+            Some(Noad::Fraction(_) | Noad::Choice(_) | Noad::Plain(_) | Noad::Node(_)) => false,
+            None => false,
+        }
+    }
+
+    /// The accent that stands in place of the last noad where this is the list of its group. Its only error is want of memory.
+    fn accent_for(&self, place: Place, group: &Mlist) -> Result<Option<Noad>, AllocError>
+        ensures { IfOk result (λ found. option_map math_of found ≡ spec.accent_for place group.now self.now) }
+    {
+        if is_nucleus(place) && self.ends_with_ord() {
+            lone_accent(group.as_slice())
+        } else {
+            Ok(None)
+        }
+    }
+
+    /// A noad in place of the last one, if there is one. After want of memory, its only error, the list may only be dropped.
+    #[tactic(auto, using(crate::proofs::Lists::changed_none))]
+    fn replace(&mut self, noad: Noad) -> Result<(), AllocError>
+        ensures { OnOk result (self.new ≡ spec.replaced (math_of noad) self.old) }
+    {
+        match self.pop() {
+            Some(_) => self.push(noad),
+            None => Ok(()),
+        }
+    }
+
+    /// What a group gives whose list this is stands at a place of the last noad, which is an atom; or, where the group is the
+    /// nucleus of an Ord and has an accent alone, this stands in the Ord's place. `TooDeep` as `into_inner` says. After an error
+    /// the list may only be dropped.
+    pub fn fill_group(&mut self, place: Place, group: Mlist) -> Result<(), MlistError>
+        ensures made { OnOk result (spec.grouped place group self.old ≡ Ok self.new) }
+        ensures error { IfErr result (λ e. e ≢ OutOfMemory → spec.grouped place group self.old ≡ Err e) }
+    {
+        match self.accent_for(place, &group)? {
+            Some(accent) => {
+                self.replace(accent)?;
+                Ok(())
+            }
+            None => {
+                let part = group.into_part()?;
+                self.fill(place, part)?;
+                Ok(())
+            }
+        }
+    }
+
+    /// The list between \left and \right, as an Inner. `TooDeep` as `into_inner` says.
+    pub fn into_delimited(
+        self,
+        alloc: Global,
+        left: Delimiter,
+        right: Delimiter,
+    ) -> Result<Noad, MlistError>
+        ensures made { IfOk result (λ noad. spec.delimited left right self ≡ Ok (math_of noad)) }
+        ensures error { IfErr result (λ e. e ≢ OutOfMemory → spec.delimited left right self ≡ Err e) }
+    {
+        let list = between(alloc, left, right, self)?;
+        let nucleus = Field::Formula(list.into_inner()?);
+        Ok(Noad::from_atom(
+            alloc,
+            Atom {
+                kind: AtomKind::Inner,
+                nucleus,
+                superscript: Field::Empty,
+                subscript: Field::Empty,
+            },
+        )?)
+    }
+}
+
+/// \left, a list, and \right. Its only error is want of memory.
+fn between(
+    alloc: Global,
+    left: Delimiter,
+    right: Delimiter,
+    list: Mlist,
+) -> Result<Mlist, AllocError>
+    ensures { IfOk result (λ made. made ≡ spec.between left right list) }
+{
+    let mut inner = list;
+    let mut made = Mlist::new(alloc);
+    made.push(Noad::Plain(PlainNoad::Left(left)))?;
+    made.append(&mut inner)?;
+    made.push(Noad::Plain(PlainNoad::Right(right)))?;
+    Ok(made)
 }

@@ -78,6 +78,14 @@ impl Mlist {
         Ok(())
     }
 
+    /// Moves the noads of another list behind these. After want of memory nothing has changed.
+    pub fn append(&mut self, others: &mut Mlist) -> Result<(), AllocError>
+        ensures ok { OnOk result ((self.new ≡ self.old ++ others.old) × (others.new ≡ [])) }
+        ensures err { OnErr result ((self.new ≡ self.old) × (others.new ≡ others.old)) }
+    {
+        self.items.append(&mut others.items)
+    }
+
     /// Takes the last noad away, None where there is none.
     pub fn pop(&mut self) -> Option<Noad>
         ensures { MatchOption result ((self.old ≡ []) × (self.new ≡ [])) (λ noad. self.old ≡ self.new ++ math_of noad ∷ []) }

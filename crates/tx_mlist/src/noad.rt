@@ -1,7 +1,7 @@
 //! Noads, which nest (TeX: The Program, sections 681 to 690).
 ghost use Rattle.std.specs.Prelude.{◌≡◌, ◌≤◌, IfOk};
 
-use crate::kinds::{AtomKind, MathCharacter};
+use crate::kinds::{AtomKind, FractionHead, MathCharacter};
 use crate::mlist::shared;
 use crate::plain::PlainNoad;
 use std::alloc::{AllocError, Global};
@@ -41,11 +41,11 @@ pub struct Atom {
     pub subscript: Field,
 }
 
-/// A fraction (TeX: The Program, section 683): how thick its line is in sp, None for \over, and the lists above and below it.
+/// A fraction (TeX: The Program, section 683): what it is beside its lists, and the lists above and below its line.
 #[cycle(noad)]
 #[derive(Drop)]
 pub struct Fraction {
-    pub thickness: Option<i32>,
+    pub head: FractionHead,
     pub numerator: InnerList,
     pub denominator: InnerList,
 }

@@ -3,7 +3,7 @@ ghost use Rattle.std.specs.Prelude.{◌≡◌, ◌↔◌, IsTrue};
 ghost use Rattle.tx_node.specs.Nodes.{item_of};
 ghost use Rattle.tx_mlist.specs.Noads.{math_of, mlist_of};
 
-use crate::kinds::{AtomKind, MathCharacter};
+use crate::kinds::{AtomKind, Delimiter, FractionHead, MathCharacter};
 use crate::noad::{Atom, Choice, Field, Fraction, InnerList, Noad};
 use crate::plain::PlainNoad;
 use std::slice;
@@ -24,8 +24,15 @@ fn same_character(a: MathCharacter, b: MathCharacter) -> bool
     a.family == b.family && a.code == b.code
 }
 
+/// Whether two delimiters are equal.
+fn same_delimiter(a: Delimiter, b: Delimiter) -> bool
+    ensures { IsTrue result ↔ (a ≡ b) }
+{
+    a == b
+}
+
 /// Whether two fractions have the same line.
-pub(crate) fn same_thickness(a: Option<i32>, b: Option<i32>) -> bool
+fn same_thickness(a: Option<i32>, b: Option<i32>) -> bool
     ensures { IsTrue result ↔ (a ≡ b) }
 {
     match (a, b) {
@@ -33,6 +40,15 @@ pub(crate) fn same_thickness(a: Option<i32>, b: Option<i32>) -> bool
         (Some(a), Some(b)) => a == b,
         (None, Some(_)) | (Some(_), None) => false,
     }
+}
+
+/// Whether two fractions are equal beside their lists.
+pub(crate) fn same_head(a: FractionHead, b: FractionHead) -> bool
+    ensures { IsTrue result ↔ (a ≡ b) }
+{
+    same_thickness(a.thickness, b.thickness)
+        && same_delimiter(a.left, b.left)
+        && same_delimiter(a.right, b.right)
 }
 
 /// Whether two small noads are equal.
@@ -44,12 +60,56 @@ fn same_plain(a: &PlainNoad, b: &PlainNoad) -> bool
         (PlainNoad::Nonscript, PlainNoad::Nonscript) => true,
         (PlainNoad::Glue(x), PlainNoad::Glue(y)) => x.same(y),
         (PlainNoad::Kern(x), PlainNoad::Kern(y)) => *x == *y,
-        (PlainNoad::Style(_), PlainNoad::Nonscript | PlainNoad::Glue(_) | PlainNoad::Kern(_))
-        | (PlainNoad::Nonscript, PlainNoad::Style(_) | PlainNoad::Glue(_) | PlainNoad::Kern(_))
-        | (PlainNoad::Glue(_), PlainNoad::Style(_) | PlainNoad::Nonscript | PlainNoad::Kern(_))
-        | (PlainNoad::Kern(_), PlainNoad::Style(_) | PlainNoad::Nonscript | PlainNoad::Glue(_)) => {
-            false
-        }
+        (PlainNoad::Left(x), PlainNoad::Left(y)) => same_delimiter(*x, *y),
+        (PlainNoad::Right(x), PlainNoad::Right(y)) => same_delimiter(*x, *y),
+        (
+            PlainNoad::Style(_),
+            PlainNoad::Nonscript
+            | PlainNoad::Glue(_)
+            | PlainNoad::Kern(_)
+            | PlainNoad::Left(_)
+            | PlainNoad::Right(_),
+        )
+        | (
+            PlainNoad::Nonscript,
+            PlainNoad::Style(_)
+            | PlainNoad::Glue(_)
+            | PlainNoad::Kern(_)
+            | PlainNoad::Left(_)
+            | PlainNoad::Right(_),
+        )
+        | (
+            PlainNoad::Glue(_),
+            PlainNoad::Style(_)
+            | PlainNoad::Nonscript
+            | PlainNoad::Kern(_)
+            | PlainNoad::Left(_)
+            | PlainNoad::Right(_),
+        )
+        | (
+            PlainNoad::Kern(_),
+            PlainNoad::Style(_)
+            | PlainNoad::Nonscript
+            | PlainNoad::Glue(_)
+            | PlainNoad::Left(_)
+            | PlainNoad::Right(_),
+        )
+        | (
+            PlainNoad::Left(_),
+            PlainNoad::Style(_)
+            | PlainNoad::Nonscript
+            | PlainNoad::Glue(_)
+            | PlainNoad::Kern(_)
+            | PlainNoad::Right(_),
+        )
+        | (
+            PlainNoad::Right(_),
+            PlainNoad::Style(_)
+            | PlainNoad::Nonscript
+            | PlainNoad::Glue(_)
+            | PlainNoad::Kern(_)
+            | PlainNoad::Left(_),
+        ) => false,
     }
 }
 
@@ -99,7 +159,7 @@ fn same_atom(a: &Atom, b: &Atom) -> bool
 fn same_fraction(a: &Fraction, b: &Fraction) -> bool
     ensures { IsTrue result ↔ (a.now ≡ b.now) }
 {
-    if !same_thickness(a.thickness, b.thickness) {
+    if !same_head(a.head, b.head) {
         return false;
     }
     if !same_inner(&a.numerator, &b.numerator) {

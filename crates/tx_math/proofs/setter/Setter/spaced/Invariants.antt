@@ -7,8 +7,8 @@ use Rattle.tx_math.proofs.setter.Setter.spaced.Given as goal
 
 abbrev pub invariant-loop-piece : goal.invariant-loop-piece
 invariant-loop-piece l =
-    with_more l.list (spaced (math_in l.self) l.penalties l.spaces (pieces_in l.rest))
-    ≡ spaced (math_in l.self) l.penalties (spaces_of l.style None) (pieces_in l.fn.pieces)
+    with_more l.list (spaced (math_in l.self) l.penalties l.fences l.spaces (pieces_in l.rest))
+    ≡ spaced (math_in l.self) l.penalties l.fences (spaces_of l.style None) (pieces_in l.fn.pieces)
 
 abbrev pub decreases-loop-piece : goal.decreases-loop-piece
 decreases-loop-piece l = length l.rest
