@@ -1,6 +1,6 @@
 -- The definitions of delimiters, radicals and accents at characters of a small font, worked by hand (The TeXbook, appendix G, rules 11,
 -- 12 and 19). The font is that of all families at all sizes.
-use Rattle.std.proofs.Common.{◌≡◌, ℕ, ℤ, pos, negsuc, List, [], ◌∷◌, Some, Ok, refl}
+use Rattle.std.proofs.Common.{◌≡◌, ℕ, ℤ, pos, negsuc, List, [], ◌∷◌, Ok, refl}
 use Rattle.std.specs.Prelude.{replicate}
 use Rattle.tx_num.specs.Glue.{zero_glue}
 use Rattle.tx_node.specs.declared.character.Character.{Character as CharacterItem}
