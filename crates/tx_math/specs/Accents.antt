@@ -63,7 +63,7 @@ accent_item m p =
 
 unfoldable pub accent_stack : Math → AccentPlace → PackedBox → Result PackedBox MathError
 accent_stack m p x =
-    passed (accent_item m p) (λ y. passed (stored (neg_ℤ p.down)) (λ space. vbox m (y ∷ kern space ∷ box_item (pos 0) x ∷ [])))
+    passed (stored (neg_ℤ p.down)) (λ space. passed (accent_item m p) (λ y. vbox m (y ∷ kern space ∷ box_item (pos 0) x ∷ [])))
 
 -- the whole is as wide as what it stands on, and at least as high: a kern fills it up
 abbrev pub filled_up : ℤ → ℤ → PackedBox → Result PackedBox MathError
