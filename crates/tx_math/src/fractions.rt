@@ -387,6 +387,25 @@ impl Setter<'_> {
         self.hbox(alloc, list)
     }
 
+    /// The box of a fraction behind its left delimiter, with the right one behind it.
+    #[tactic(auto, unfolding(crate::specs::Fractions::before_right))]
+    fn before_right(
+        &self,
+        alloc: Global,
+        style: u8,
+        head: FractionHead,
+        inner: BoxNode,
+        left: Node,
+    ) -> Result<BoxNode, MathError>
+        requires { IsSetter self.now }
+        ensures made { IfOk result (λ made. spec.before_right (math_in self.now) style head inner (item_of left) ≡ Ok made) }
+        ensures error { IfErr result (λ e. e ≢ OutOfMemory → spec.before_right (math_in self.now) style head inner (item_of left) ≡ Err e) }
+    {
+        let size = self.delimiter_size(style);
+        let right = self.delimiter_item(alloc, style, head.right, size)?;
+        self.packed_between(alloc, left, inner, right)
+    }
+
     /// The box of a fraction with its delimiters on both sides.
     #[tactic(auto, unfolding(crate::specs::Fractions::between_delimiters))]
     fn between_delimiters(
@@ -402,8 +421,7 @@ impl Setter<'_> {
     {
         let size = self.delimiter_size(style);
         let left = self.delimiter_item(alloc, style, head.left, size)?;
-        let right = self.delimiter_item(alloc, style, head.right, size)?;
-        self.packed_between(alloc, left, inner, right)
+        self.before_right(alloc, style, head, inner, left)
     }
 
     /// A fraction with a line of this thickness, in sp, and its delimiters, of a numerator and a denominator of one width.
