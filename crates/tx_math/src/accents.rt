@@ -227,6 +227,23 @@ impl Setter<'_> {
         self.vbox(alloc, list)
     }
 
+    /// An accent above a box, with a kern of so many sp between them.
+    #[tactic(auto, unfolding(crate::specs::Accents::accent_above))]
+    fn accent_above(
+        &self,
+        alloc: Global,
+        place: AccentPlace,
+        space: i32,
+        inner: BoxNode,
+    ) -> Result<BoxNode, MathError>
+        requires { IsSetter self.now }
+        ensures made { IfOk result (λ made. spec.accent_above (math_in self.now) place space inner ≡ Ok made) }
+        ensures error { IfErr result (λ e. e ≢ OutOfMemory → spec.accent_above (math_in self.now) place space inner ≡ Err e) }
+    {
+        let accent = self.accent_item(alloc, place)?;
+        self.packed_above(alloc, accent, space, inner)
+    }
+
     /// An accent on a box.
     #[tactic(auto, unfolding(crate::specs::Accents::accent_stack))]
     fn accent_stack(
@@ -241,8 +258,7 @@ impl Setter<'_> {
         ensures error { IfErr result (λ e. e ≢ OutOfMemory → spec.accent_stack (math_in self.now) place inner ≡ Err e) }
     {
         let space = stored(negated(place.down))?;
-        let accent = self.accent_item(alloc, place)?;
-        self.packed_above(alloc, accent, space, inner)
+        self.accent_above(alloc, place, space, inner)
     }
 
     /// The same, as wide as the box, and at least as high.

@@ -138,7 +138,25 @@ impl Setter<'_> {
         self.hbox(alloc, list)
     }
 
-    /// What stands below the line, behind the sign.
+    /// A sign that is shifted by so many sp, and behind it what stands below the line.
+    #[tactic(auto, unfolding(crate::specs::Radicals::before_bar))]
+    fn before_bar(
+        &self,
+        alloc: Global,
+        shift: i32,
+        sign: BoxNode,
+        clearance: i64,
+        inner: BoxNode,
+    ) -> Result<BoxNode, MathError>
+        requires { IsSetter self.now }
+        ensures made { IfOk result (λ made. spec.before_bar (math_in self.now) shift sign clearance inner ≡ Ok made) }
+        ensures error { IfErr result (λ e. e ≢ OutOfMemory → spec.before_bar (math_in self.now) shift sign clearance inner ≡ Err e) }
+    {
+        let bar = self.barred(alloc, sign.height(), clearance, inner)?;
+        self.packed_beside(alloc, shift, sign, bar)
+    }
+
+    /// The same with the sign's top at the line's.
     #[tactic(auto, unfolding(crate::specs::Radicals::rooted))]
     fn rooted(
         &self,
@@ -152,10 +170,8 @@ impl Setter<'_> {
         ensures made { IfOk result (λ made. spec.rooted (math_in self.now) sign clearance inner ≡ Ok made) }
         ensures error { IfErr result (λ e. e ≢ OutOfMemory → spec.rooted (math_in self.now) sign clearance inner ≡ Err e) }
     {
-        let thickness = sign.height();
         let shift = shift_of(&inner, clearance)?;
-        let bar = self.barred(alloc, thickness, clearance, inner)?;
-        self.packed_beside(alloc, shift, sign, bar)
+        self.before_bar(alloc, shift, sign, clearance, inner)
     }
 
     /// What stands in a box behind the sign of a radical and below its line.
