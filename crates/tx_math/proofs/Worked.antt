@@ -35,7 +35,7 @@ use Rattle.tx_math.specs.Entries.{entries_of}
 use Rattle.tx_math.specs.Formula.{limits_below, limits_list, scripted_operator, scripted, boxed_list, fetched_nucleus, cleaned, list_nucleus, script_of, script_box, with_scripts, remade_nucleus, operator_by, limits_box, limited, unlimited, lined_up, fraction_items, converted, hlist, list_in, math_with}
 use Rattle.tx_math.specs.Delimiters.{delimiter_item, sign_box, sign_of}
 use Rattle.tx_math.specs.Fences.{fences_of}
-use Rattle.tx_math.specs.Fractions.{between_delimiters, even_boxes, fraction_box, fraction_depth, fraction_height, fraction_list, fraction_of, list_by_line, space_above, space_below}
+use Rattle.tx_math.specs.Fractions.{before_right, between_delimiters, even_boxes, fraction_box, fraction_depth, fraction_height, fraction_list, fraction_of, list_by_line, space_above, space_below}
 use Rattle.tx_math.specs.Mu.{elastic_in_points, fitting, glue_in_points, math_glue, math_kern, times_mu}
 use Rattle.tx_math.specs.Operators.{above_operator, below_operator, evened, limited_depth, limited_height, limits_of, lower_from, lower_limit, moved_left, moved_right, reach_of, upper_from, upper_limit, widest}
 use Rattle.tx_math.specs.Scripts.{above_bottom, below_top, first_lowered, first_raised, gap, script_shifts, scripts_item, stack_box, stack_list, stacked, subscript_item, superscript_item}
@@ -216,7 +216,7 @@ abbrev over : FractionHead
 over = record { thickness = None; left = no_delimiter; right = no_delimiter }
 
 one-fraction : set_in 2 (fraction over (gathered (alone Ord b ∷ [])) (gathered (alone Ord b ∷ [])) ∷ []) ≡ gives (box_item (pos 0) between ∷ [])
-unfolding word_at scaled command_of boundary_start boundary_code character_start found converted list_in entries_of composed composed_within most_steps step cleaned_list packed_box reboxed fraction_of between_delimiters delimiter_item sign_of sign_box framed times_mu math_glue math_kern fetched_from subscript_item superscript_item even_boxes fraction_list fraction_box evened upper_limit lower_limit fetched_nucleus cleaned list_nucleus script_of script_box with_scripts remade_nucleus operator_by limits_box limited unlimited lined_up fraction_items first_lowered below_top first_raised above_bottom space_above space_below elastic_in_points glue_in_points fitting gap stacked stack_box shifted set_to centred centred_to above_operator below_operator widest reach_of limited_height limited_depth fraction_height fraction_depth limits_list scripted_operator scripted boxed_list stack_list moved_left moved_right upper_from lower_from script_shifts list_by_line limits_below
+unfolding word_at scaled command_of boundary_start boundary_code character_start found converted list_in entries_of composed composed_within most_steps step cleaned_list packed_box reboxed fraction_of before_right between_delimiters delimiter_item sign_of sign_box framed times_mu math_glue math_kern fetched_from subscript_item superscript_item even_boxes fraction_list fraction_box evened upper_limit lower_limit fetched_nucleus cleaned list_nucleus script_of script_box with_scripts remade_nucleus operator_by limits_box limited unlimited lined_up fraction_items first_lowered below_top first_raised above_bottom space_above space_below elastic_in_points glue_in_points fitting gap stacked stack_box shifted set_to centred centred_to above_operator below_operator widest reach_of limited_height limited_depth fraction_height fraction_depth limits_list scripted_operator scripted boxed_list stack_list moved_left moved_right upper_from lower_from script_shifts list_by_line limits_below
 one-fraction = refl
 
 -- $\left.b\right.$: 5pt wide, since no delimiter has a width; it is an Inner
@@ -224,7 +224,7 @@ abbrev enclosed : PackedBox
 enclosed = hbox_of (pos 327680) (pos 163840) (pos 0) (side ∷ character 98 ∷ side ∷ [])
 
 left-right : set_in 2 (atom Inner (formula (gathered (fenced no_delimiter no_delimiter (alone Ord b ∷ [])))) empty empty ∷ []) ≡ gives (box_item (pos 0) enclosed ∷ [])
-unfolding word_at scaled command_of boundary_start boundary_code character_start found converted list_in entries_of composed composed_within most_steps step cleaned_list packed_box reboxed fraction_of fences_of between_delimiters delimiter_item sign_of sign_box framed times_mu math_glue math_kern fetched_from subscript_item superscript_item even_boxes fraction_list fraction_box evened upper_limit lower_limit fetched_nucleus cleaned list_nucleus script_of script_box with_scripts remade_nucleus operator_by limits_box limited unlimited lined_up fraction_items first_lowered below_top first_raised above_bottom space_above space_below elastic_in_points glue_in_points fitting gap stacked stack_box shifted set_to centred centred_to above_operator below_operator widest reach_of limited_height limited_depth fraction_height fraction_depth limits_list scripted_operator scripted boxed_list stack_list moved_left moved_right upper_from lower_from script_shifts list_by_line limits_below
+unfolding word_at scaled command_of boundary_start boundary_code character_start found converted list_in entries_of composed composed_within most_steps step cleaned_list packed_box reboxed fraction_of fences_of before_right between_delimiters delimiter_item sign_of sign_box framed times_mu math_glue math_kern fetched_from subscript_item superscript_item even_boxes fraction_list fraction_box evened upper_limit lower_limit fetched_nucleus cleaned list_nucleus script_of script_box with_scripts remade_nucleus operator_by limits_box limited unlimited lined_up fraction_items first_lowered below_top first_raised above_bottom space_above space_below elastic_in_points glue_in_points fitting gap stacked stack_box shifted set_to centred centred_to above_operator below_operator widest reach_of limited_height limited_depth fraction_height fraction_depth limits_list scripted_operator scripted boxed_list stack_list moved_left moved_right upper_from lower_from script_shifts list_by_line limits_below
 left-right = refl
 
 -- in a paragraph a penalty stands behind an operation and a relation, but not at the end

@@ -61,9 +61,12 @@ unfoldable pub accent_item : Math → AccentPlace → Result Item MathError
 accent_item m p =
     passed (drawn (character_box m.fonts p.font p.code)) (λ y. passed (with_width y (pos 0)) (λ narrow. shifted p.right narrow))
 
+-- it stands above the other box, with a kern between them that brings it down
+unfoldable pub accent_above : Math → AccentPlace → ℤ → PackedBox → Result PackedBox MathError
+accent_above m p space x = passed (accent_item m p) (λ y. vbox m (y ∷ kern space ∷ box_item (pos 0) x ∷ []))
+
 unfoldable pub accent_stack : Math → AccentPlace → PackedBox → Result PackedBox MathError
-accent_stack m p x =
-    passed (accent_item m p) (λ y. passed (stored (neg_ℤ p.down)) (λ space. vbox m (y ∷ kern space ∷ box_item (pos 0) x ∷ [])))
+accent_stack m p x = passed (stored (neg_ℤ p.down)) (λ space. accent_above m p space x)
 
 -- the whole is as wide as what it stands on, and at least as high: a kern fills it up
 abbrev pub filled_up : ℤ → ℤ → PackedBox → Result PackedBox MathError

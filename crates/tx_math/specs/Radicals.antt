@@ -4,7 +4,7 @@ use Rattle.tx_node.specs.Items.{PackedBox, box_item}
 use Rattle.tx_mlist.specs.declared.kinds.Delimiter.{Delimiter}
 use Rattle.tx_math.specs.declared.error.MathError.{MathError}
 use Rattle.tx_math.specs.declared.signs.Sign.{Sign}
-use Rattle.tx_math.specs.Boxes.{hbox, kern, line, shifted, stored, vbox}
+use Rattle.tx_math.specs.Boxes.{hbox, kern, line, stored, vbox}
 use Rattle.tx_math.specs.Delimiters.{sign_of}
 use Rattle.tx_math.specs.Outcomes.{passed}
 use Rattle.tx_math.specs.Parameters.{Math, half, quarter, rule_thickness, x_height}
@@ -38,11 +38,13 @@ unfoldable pub barred : Math → ℤ → ℤ → PackedBox → Result PackedBox 
 barred m thickness clearance x =
     passed (stored clearance) (λ space. vbox m (kern thickness ∷ line thickness ∷ kern space ∷ box_item (pos 0) x ∷ []))
 
--- the sign stands before that, its top at the line's
+-- the sign stands before that, shifted so that its top is at the line's
+unfoldable pub before_bar : Math → ℤ → PackedBox → ℤ → PackedBox → Result PackedBox MathError
+before_bar m shift sign clearance x =
+    passed (barred m sign.head.height clearance x) (λ bar. hbox m (box_item shift sign ∷ box_item (pos 0) bar ∷ []))
+
 unfoldable pub rooted : Math → PackedBox → ℤ → PackedBox → Result PackedBox MathError
-rooted m sign clearance x =
-    passed (shifted (neg_ℤ (x.head.height +ℤ clearance)) sign) (λ left.
-    passed (barred m sign.head.height clearance x) (λ bar. hbox m (left ∷ box_item (pos 0) bar ∷ [])))
+rooted m sign clearance x = passed (stored (neg_ℤ (x.head.height +ℤ clearance))) (λ shift. before_bar m shift sign clearance x)
 
 abbrev pub behind_sign : Math → ℕ → PackedBox → Sign → Result PackedBox MathError
 behind_sign m style x sign = rooted m sign.inner (clearance_of sign.inner x (first_clearance m style)) x

@@ -1,5 +1,6 @@
 //! \mathaccent (TeX: The Program, sections 738 to 742).
-ghost use Rattle.std.specs.Prelude.{◌≡◌, ◌≢◌, ◌≤◌, ◌^◌, ◌∷◌, unsigned_abs, IfOk, IfErr, Ok, Err};
+ghost use Rattle.std.specs.Prelude.{◌≡◌, ◌≢◌, ◌≤◌, ◌^◌, ◌∷◌, ◌-ℤ◌, [], pos, unsigned_abs, IfOk, IfErr, Ok, Err};
+ghost use Rattle.tx_node.specs.Items.{box_item};
 ghost use Rattle.tx_node.specs.Nodes.{item_of};
 ghost use Rattle.tx_math.specs.Accents as spec;
 ghost use Rattle.tx_math.specs.Boxes as boxes;
@@ -56,6 +57,14 @@ pub fn place_on(place: AccentPlace, inner: &BoxNode, grown: &BoxNode) -> AccentP
     }
 }
 
+/// A node above a box, with a kern of so many sp between them. Its only error is want of memory.
+fn above_box(alloc: Global, upper: Node, space: i32, inner: BoxNode) -> Result<Nodes, AllocError>
+    ensures { IfOk result (λ list. list ≡ item_of upper ∷ boxes.kern space ∷ box_item (pos 0) inner ∷ []) }
+{
+    let inner = boxed(alloc, inner)?;
+    triple(alloc, upper, kern(space), inner)
+}
+
 /// The list of a box below a kern, in sp. Its only error is want of memory.
 fn topped(alloc: Global, space: i32, inner: BoxNode) -> Result<Nodes, AllocError>
     ensures { IfOk result (λ list. list ≡ boxes.kern space ∷ inner.list) }
@@ -66,16 +75,38 @@ fn topped(alloc: Global, space: i32, inner: BoxNode) -> Result<Nodes, AllocError
     Ok(list)
 }
 
+/// The same in a vertical box of this width and height, in sp.
+fn framed_below(
+    alloc: Global,
+    width: i64,
+    height: i64,
+    space: i32,
+    inner: BoxNode,
+) -> Result<BoxNode, MathError>
+    ensures made { IfOk result (λ made. boxes.framed width height inner.head.depth (boxes.kern space ∷ inner.list) ≡ Ok made) }
+    ensures error { IfErr result (λ e. e ≢ OutOfMemory → boxes.framed width height inner.head.depth (boxes.kern space ∷ inner.list) ≡ Err e) }
+{
+    let depth = i64::from(inner.depth());
+    let list = topped(alloc, space, inner)?;
+    framed(alloc, width, height, depth, list)
+}
+
+/// How much a box lacks of a height, in sp. `SizeOutOfRange` exactly where that is no dimension.
+fn lacking(height: i64, inner: &BoxNode) -> Result<i32, MathError>
+    requires { unsigned_abs height ≤ 2 ^ 31 }
+    ensures { result ≡ boxes.stored (height -ℤ inner.now.head.height) }
+{
+    stored(minus(height, i64::from(inner.height())))
+}
+
 /// A vertical box that a kern fills up to this height, with this width, in sp.
 fn filled_up(alloc: Global, width: i64, height: i64, inner: BoxNode) -> Result<BoxNode, MathError>
     requires { unsigned_abs height ≤ 2 ^ 31 }
     ensures made { IfOk result (λ made. spec.filled_up width height inner ≡ Ok made) }
     ensures error { IfErr result (λ e. e ≢ OutOfMemory → spec.filled_up width height inner ≡ Err e) }
 {
-    let space = stored(minus(height, i64::from(inner.height())))?;
-    let depth = i64::from(inner.depth());
-    let list = topped(alloc, space, inner)?;
-    framed(alloc, width, height, depth, list)
+    let space = lacking(height, &inner)?;
+    framed_below(alloc, width, height, space, inner)
 }
 
 /// A vertical box at least so high, with this width, in sp.
@@ -180,6 +211,39 @@ impl Setter<'_> {
         shifted(alloc, place.right, inner)
     }
 
+    /// A node above a box, with a kern of so many sp between them, in a box of natural size.
+    fn packed_above(
+        &self,
+        alloc: Global,
+        upper: Node,
+        space: i32,
+        inner: BoxNode,
+    ) -> Result<BoxNode, MathError>
+        requires { IsSetter self.now }
+        ensures made { IfOk result (λ made. boxes.vbox (math_in self.now) (item_of upper ∷ boxes.kern space ∷ box_item (pos 0) inner ∷ []) ≡ Ok made) }
+        ensures error { IfErr result (λ e. e ≢ OutOfMemory → boxes.vbox (math_in self.now) (item_of upper ∷ boxes.kern space ∷ box_item (pos 0) inner ∷ []) ≡ Err e) }
+    {
+        let list = above_box(alloc, upper, space, inner)?;
+        self.vbox(alloc, list)
+    }
+
+    /// An accent above a box, with a kern of so many sp between them.
+    #[tactic(auto, unfolding(crate::specs::Accents::accent_above))]
+    fn accent_above(
+        &self,
+        alloc: Global,
+        place: AccentPlace,
+        space: i32,
+        inner: BoxNode,
+    ) -> Result<BoxNode, MathError>
+        requires { IsSetter self.now }
+        ensures made { IfOk result (λ made. spec.accent_above (math_in self.now) place space inner ≡ Ok made) }
+        ensures error { IfErr result (λ e. e ≢ OutOfMemory → spec.accent_above (math_in self.now) place space inner ≡ Err e) }
+    {
+        let accent = self.accent_item(alloc, place)?;
+        self.packed_above(alloc, accent, space, inner)
+    }
+
     /// An accent on a box.
     #[tactic(auto, unfolding(crate::specs::Accents::accent_stack))]
     fn accent_stack(
@@ -193,11 +257,8 @@ impl Setter<'_> {
         ensures made { IfOk result (λ made. spec.accent_stack (math_in self.now) place inner ≡ Ok made) }
         ensures error { IfErr result (λ e. e ≢ OutOfMemory → spec.accent_stack (math_in self.now) place inner ≡ Err e) }
     {
-        let accent = self.accent_item(alloc, place)?;
         let space = stored(negated(place.down))?;
-        let inner = boxed(alloc, inner)?;
-        let list = triple(alloc, accent, kern(space), inner)?;
-        self.vbox(alloc, list)
+        self.accent_above(alloc, place, space, inner)
     }
 
     /// The same, as wide as the box, and at least as high.

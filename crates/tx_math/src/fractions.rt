@@ -1,5 +1,8 @@
 //! Fractions (TeX: The Program, sections 743 to 748).
-ghost use Rattle.std.specs.Prelude.{◌≡◌, ◌≢◌, ◌≤◌, ◌+◌, ◌^◌, unsigned_abs, IfOk, IfErr, Ok, Err};
+ghost use Rattle.std.specs.Prelude.{◌≡◌, ◌≢◌, ◌≤◌, ◌+◌, ◌^◌, ◌∷◌, [], pos, unsigned_abs, IfOk, IfErr, Ok, Err};
+ghost use Rattle.tx_node.specs.Items.{box_item};
+ghost use Rattle.tx_node.specs.Nodes.{item_of};
+ghost use Rattle.tx_math.specs.Boxes as boxes;
 ghost use Rattle.tx_math.specs.Fractions as spec;
 ghost use Rattle.tx_math.specs.Setters.{AreNear, IsNear, IsSetter, math_in};
 ghost use Rattle.tx_math.specs.declared.error.MathError.TheVariants.{OutOfMemory};
@@ -11,10 +14,10 @@ use crate::scripts::gap;
 use crate::setter::Setter;
 use crate::shifts::Shifts;
 use crate::sums::{greater, minus, plus, times};
-use std::alloc::Global;
+use std::alloc::{AllocError, Global};
 use tx_bytes::Bytes;
 use tx_mlist::FractionHead;
-use tx_node::{BoxNode, Nodes};
+use tx_node::{BoxNode, Node, Nodes};
 
 /// Both moved by so many sp, if that is something.
 fn moved_by(by: i64, shifts: Shifts) -> Shifts
@@ -89,6 +92,14 @@ fn lineless_list(
     let upper = boxed(alloc, upper)?;
     let lower = boxed(alloc, lower)?;
     Ok(triple(alloc, upper, kern(space), lower)?)
+}
+
+/// A box between two nodes. Its only error is want of memory.
+fn enclosed(alloc: Global, left: Node, inner: BoxNode, right: Node) -> Result<Nodes, AllocError>
+    ensures { IfOk result (λ list. list ≡ item_of left ∷ box_item (pos 0) inner ∷ item_of right ∷ []) }
+{
+    let inner = boxed(alloc, inner)?;
+    triple(alloc, left, inner, right)
 }
 
 impl Setter<'_> {
@@ -360,6 +371,41 @@ impl Setter<'_> {
         }
     }
 
+    /// A box between two nodes, in a box of natural size.
+    fn packed_between(
+        &self,
+        alloc: Global,
+        left: Node,
+        inner: BoxNode,
+        right: Node,
+    ) -> Result<BoxNode, MathError>
+        requires { IsSetter self.now }
+        ensures made { IfOk result (λ made. boxes.hbox (math_in self.now) (item_of left ∷ box_item (pos 0) inner ∷ item_of right ∷ []) ≡ Ok made) }
+        ensures error { IfErr result (λ e. e ≢ OutOfMemory → boxes.hbox (math_in self.now) (item_of left ∷ box_item (pos 0) inner ∷ item_of right ∷ []) ≡ Err e) }
+    {
+        let list = enclosed(alloc, left, inner, right)?;
+        self.hbox(alloc, list)
+    }
+
+    /// The box of a fraction behind its left delimiter, with the right one behind it.
+    #[tactic(auto, unfolding(crate::specs::Fractions::before_right))]
+    fn before_right(
+        &self,
+        alloc: Global,
+        style: u8,
+        head: FractionHead,
+        inner: BoxNode,
+        left: Node,
+    ) -> Result<BoxNode, MathError>
+        requires { IsSetter self.now }
+        ensures made { IfOk result (λ made. spec.before_right (math_in self.now) style head inner (item_of left) ≡ Ok made) }
+        ensures error { IfErr result (λ e. e ≢ OutOfMemory → spec.before_right (math_in self.now) style head inner (item_of left) ≡ Err e) }
+    {
+        let size = self.delimiter_size(style);
+        let right = self.delimiter_item(alloc, style, head.right, size)?;
+        self.packed_between(alloc, left, inner, right)
+    }
+
     /// The box of a fraction with its delimiters on both sides.
     #[tactic(auto, unfolding(crate::specs::Fractions::between_delimiters))]
     fn between_delimiters(
@@ -375,10 +421,7 @@ impl Setter<'_> {
     {
         let size = self.delimiter_size(style);
         let left = self.delimiter_item(alloc, style, head.left, size)?;
-        let right = self.delimiter_item(alloc, style, head.right, size)?;
-        let inner = boxed(alloc, inner)?;
-        let list = triple(alloc, left, inner, right)?;
-        self.hbox(alloc, list)
+        self.before_right(alloc, style, head, inner, left)
     }
 
     /// A fraction with a line of this thickness, in sp, and its delimiters, of a numerator and a denominator of one width.

@@ -1,19 +1,21 @@
 //! \radical (TeX: The Program, sections 705 and 737).
-ghost use Rattle.std.specs.Prelude.{◌≡◌, ◌≢◌, ◌≤◌, ◌^◌, unsigned_abs, IfOk, IfErr, Ok, Err};
+ghost use Rattle.std.specs.Prelude.{◌≡◌, ◌≢◌, ◌≤◌, ◌^◌, ◌∷◌, ◌+ℤ◌, [], neg_ℤ, pos, unsigned_abs, IfOk, IfErr, Ok, Err};
+ghost use Rattle.tx_node.specs.Items.{box_item};
+ghost use Rattle.tx_math.specs.Boxes as boxes;
 ghost use Rattle.tx_math.specs.Radicals as spec;
 ghost use Rattle.tx_math.specs.Setters.{IsSetter, math_in};
 ghost use Rattle.tx_math.specs.declared.error.MathError.TheVariants.{OutOfMemory};
 
-use crate::boxes::{boxed, pair, shifted, stored};
+use crate::boxes::{boxed, pair, stored};
 use crate::error::MathError;
 use crate::lines::below_line;
 use crate::parameters::{half, quarter};
 use crate::setter::Setter;
 use crate::signs::Sign;
 use crate::sums::{minus, negated, plus};
-use std::alloc::Global;
+use std::alloc::{AllocError, Global};
 use tx_mlist::Delimiter;
-use tx_node::BoxNode;
+use tx_node::{BoxNode, Node, Nodes};
 
 /// How far it is from the depth of what stands below the line to the line, in sp.
 #[tactic(auto, unfolding(crate::specs::Radicals::radicand_size))]
@@ -49,6 +51,24 @@ fn clearance_of(sign: &BoxNode, inner: &BoxNode, clearance: i64) -> i64
 {
     let excess = minus(i64::from(sign.depth()), radicand_size(inner, clearance));
     grown_by(excess, clearance)
+}
+
+/// How far down the sign is shifted, in sp: its top is at the line's. `SizeOutOfRange` exactly where that is no dimension.
+fn shift_of(inner: &BoxNode, clearance: i64) -> Result<i32, MathError>
+    requires { unsigned_abs clearance ≤ 2 ^ 35 }
+    ensures { result ≡ boxes.stored (neg_ℤ (inner.now.head.height +ℤ clearance)) }
+{
+    let up = plus(i64::from(inner.height()), clearance);
+    stored(negated(up))
+}
+
+/// A box that is shifted by so many sp, and another one behind it. Its only error is want of memory.
+fn beside(alloc: Global, shift: i32, left: BoxNode, right: BoxNode) -> Result<Nodes, AllocError>
+    ensures { IfOk result (λ list. list ≡ box_item shift left ∷ box_item (pos 0) right ∷ []) }
+{
+    let left = Node::from_box(alloc, shift, left)?;
+    let right = boxed(alloc, right)?;
+    pair(alloc, left, right)
 }
 
 impl Setter<'_> {
@@ -102,7 +122,41 @@ impl Setter<'_> {
         self.vbox(alloc, list)
     }
 
-    /// The same behind the sign.
+    /// A box that is shifted by so many sp, and another one behind it, in a box of natural size.
+    fn packed_beside(
+        &self,
+        alloc: Global,
+        shift: i32,
+        left: BoxNode,
+        right: BoxNode,
+    ) -> Result<BoxNode, MathError>
+        requires { IsSetter self.now }
+        ensures made { IfOk result (λ made. boxes.hbox (math_in self.now) (box_item shift left ∷ box_item (pos 0) right ∷ []) ≡ Ok made) }
+        ensures error { IfErr result (λ e. e ≢ OutOfMemory → boxes.hbox (math_in self.now) (box_item shift left ∷ box_item (pos 0) right ∷ []) ≡ Err e) }
+    {
+        let list = beside(alloc, shift, left, right)?;
+        self.hbox(alloc, list)
+    }
+
+    /// A sign that is shifted by so many sp, and behind it what stands below the line.
+    #[tactic(auto, unfolding(crate::specs::Radicals::before_bar))]
+    fn before_bar(
+        &self,
+        alloc: Global,
+        shift: i32,
+        sign: BoxNode,
+        clearance: i64,
+        inner: BoxNode,
+    ) -> Result<BoxNode, MathError>
+        requires { IsSetter self.now }
+        ensures made { IfOk result (λ made. spec.before_bar (math_in self.now) shift sign clearance inner ≡ Ok made) }
+        ensures error { IfErr result (λ e. e ≢ OutOfMemory → spec.before_bar (math_in self.now) shift sign clearance inner ≡ Err e) }
+    {
+        let bar = self.barred(alloc, sign.height(), clearance, inner)?;
+        self.packed_beside(alloc, shift, sign, bar)
+    }
+
+    /// The same with the sign's top at the line's.
     #[tactic(auto, unfolding(crate::specs::Radicals::rooted))]
     fn rooted(
         &self,
@@ -116,13 +170,8 @@ impl Setter<'_> {
         ensures made { IfOk result (λ made. spec.rooted (math_in self.now) sign clearance inner ≡ Ok made) }
         ensures error { IfErr result (λ e. e ≢ OutOfMemory → spec.rooted (math_in self.now) sign clearance inner ≡ Err e) }
     {
-        let thickness = sign.height();
-        let up = plus(i64::from(inner.height()), clearance);
-        let left = shifted(alloc, negated(up), sign)?;
-        let bar = self.barred(alloc, thickness, clearance, inner)?;
-        let bar = boxed(alloc, bar)?;
-        let list = pair(alloc, left, bar)?;
-        self.hbox(alloc, list)
+        let shift = shift_of(&inner, clearance)?;
+        self.before_bar(alloc, shift, sign, clearance, inner)
     }
 
     /// What stands in a box behind the sign of a radical and below its line.
