@@ -3,6 +3,7 @@ use Rattle.std.specs.Prelude.{ℕ, ℤ, pos, ◌+ℤ◌, ◌-ℤ◌, ◌*ℤ◌,
 use Rattle.std.specs.Int.{int_max}
 use Rattle.tx_node.specs.Items.{Item, PackedBox, box_item}
 use Rattle.tx_pack.specs.Stretching.{is_nothing}
+use Rattle.tx_mlist.specs.declared.kinds.Delimiter.{Delimiter}
 use Rattle.tx_mlist.specs.declared.kinds.FractionHead.{FractionHead}
 use Rattle.tx_math.specs.declared.error.MathError.{MathError}
 use Rattle.tx_math.specs.declared.shifts.Shifts.{Shifts}
@@ -100,13 +101,14 @@ fraction_box m style thickness s x z =
 abbrev pub delimiter_size : Math → ℕ → ℤ
 delimiter_size m style = if is_display style then delim1 m style else delim2 m style
 
-unfoldable pub before_right : Math → ℕ → FractionHead → PackedBox → Item → Result PackedBox MathError
-before_right m style head v left =
-    passed (delimiter_item m style head.right (delimiter_size m style)) (λ right. hbox m (left ∷ box_item (pos 0) v ∷ right ∷ []))
+unfoldable pub before_right : Math → ℕ → ℤ → Delimiter → PackedBox → Item → Result PackedBox MathError
+before_right m style size d v left =
+    passed (delimiter_item m style d size) (λ right. hbox m (left ∷ box_item (pos 0) v ∷ right ∷ []))
 
 unfoldable pub between_delimiters : Math → ℕ → FractionHead → PackedBox → Result PackedBox MathError
 between_delimiters m style head v =
-    passed (delimiter_item m style head.left (delimiter_size m style)) (λ left. before_right m style head v left)
+    passed (delimiter_item m style head.left (delimiter_size m style)) (λ left.
+    before_right m style (delimiter_size m style) head.right v left)
 
 unfoldable pub fraction_of : Math → ℕ → ℤ → FractionHead → PackedBox → PackedBox → Result PackedBox MathError
 fraction_of m style thickness head x z =

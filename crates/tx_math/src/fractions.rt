@@ -16,7 +16,7 @@ use crate::shifts::Shifts;
 use crate::sums::{greater, minus, plus, times};
 use std::alloc::{AllocError, Global};
 use tx_bytes::Bytes;
-use tx_mlist::FractionHead;
+use tx_mlist::{Delimiter, FractionHead};
 use tx_node::{BoxNode, Node, Nodes};
 
 /// Both moved by so many sp, if that is something.
@@ -387,22 +387,23 @@ impl Setter<'_> {
         self.hbox(alloc, list)
     }
 
-    /// The box of a fraction behind its left delimiter, with the right one behind it.
+    /// The box of a fraction behind its left delimiter, with the right one, so tall at least, in sp, behind it.
     #[tactic(auto, unfolding(crate::specs::Fractions::before_right))]
     fn before_right(
         &self,
         alloc: Global,
         style: u8,
-        head: FractionHead,
+        size: i64,
+        delimiter: Delimiter,
         inner: BoxNode,
         left: Node,
     ) -> Result<BoxNode, MathError>
-        requires { IsSetter self.now }
-        ensures made { IfOk result (λ made. spec.before_right (math_in self.now) style head inner (item_of left) ≡ Ok made) }
-        ensures error { IfErr result (λ e. e ≢ OutOfMemory → spec.before_right (math_in self.now) style head inner (item_of left) ≡ Err e) }
+        requires setter { IsSetter self.now }
+        requires size { unsigned_abs size ≤ 2 ^ 31 }
+        ensures made { IfOk result (λ made. spec.before_right (math_in self.now) style size delimiter inner (item_of left) ≡ Ok made) }
+        ensures error { IfErr result (λ e. e ≢ OutOfMemory → spec.before_right (math_in self.now) style size delimiter inner (item_of left) ≡ Err e) }
     {
-        let size = self.delimiter_size(style);
-        let right = self.delimiter_item(alloc, style, head.right, size)?;
+        let right = self.delimiter_item(alloc, style, delimiter, size)?;
         self.packed_between(alloc, left, inner, right)
     }
 
@@ -421,7 +422,7 @@ impl Setter<'_> {
     {
         let size = self.delimiter_size(style);
         let left = self.delimiter_item(alloc, style, head.left, size)?;
-        self.before_right(alloc, style, head, inner, left)
+        self.before_right(alloc, style, size, head.right, inner, left)
     }
 
     /// A fraction with a line of this thickness, in sp, and its delimiters, of a numerator and a denominator of one width.
