@@ -3,6 +3,8 @@
 A file that changes on the disk is sent to the program as it is now. What is typed into the page is sent too, and put on the disk when it is
 saved. Where both happened, nobody's text is lost: the file stays as it was typed until the user chooses.
 """
+import contextlib
+import errno
 import os
 import tempfile
 import threading
@@ -30,6 +32,8 @@ def contents(path):
 
 def put(path, data):
     """Writes a file beside its place and renames it, so that it is the old one or the new one at any time."""
+    if os.path.lexists(path) and not os.access(path, os.W_OK):
+        raise PermissionError(errno.EACCES, os.strerror(errno.EACCES))
     place = os.path.realpath(path)
     number, beside = tempfile.mkstemp(dir=os.path.dirname(place), prefix=".vortex-")
     try:
@@ -81,6 +85,8 @@ class Desk:
         self.main, self.files = main, {name: File(path) for name, path in paths.items()}
         there = {name: file.disk for name, file in self.files.items() if file.disk is not None}
         self.document = Document(program, main, there, options, date)
+        # How often the metrics of a font have changed.
+        self.fonts = 0
         self.version, self.changed, self.ended = 1, threading.Condition(self.document.lock), None
         self.looking = threading.Thread(target=self.look, daemon=True)
         self.looking.start()
@@ -132,9 +138,22 @@ class Desk:
         try:
             if self.ended is None and request(name, *rest):
                 self.files[name].version += 1
+                if name.endswith(".tfm"):
+                    self.copy(name)
         except Ended as ended:
             self.ended = ended.args[0]
         self.tell()
+
+    def copy(self, name):
+        """Puts a file into the document's folder as it is by now; there what makes pictures of pages looks for the metrics of fonts."""
+        self.fonts += 1
+        path = os.path.join(self.document.folder, name)
+        with contextlib.suppress(OSError):
+            if name in self.document.files:
+                os.makedirs(os.path.dirname(path), exist_ok=True)
+                put(path, self.document.files[name])
+            else:
+                os.unlink(path)
 
     def tell(self):
         self.version += 1
