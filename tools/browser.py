@@ -33,8 +33,13 @@ class Browser:
         self.session = self.call("Target.attachToTarget", targetId=target, flatten=True)["sessionId"]
         self.call("Page.enable")
         self.call("Emulation.setDeviceMetricsOverride", width=width, height=height, deviceScaleFactor=1, mobile=False)
+        self.go(address)
+
+    def go(self, address):
+        """Opens an address, also that which is open, and waits for what lies there."""
+        self.value("window.left = true")
         self.call("Page.navigate", url=address)
-        self.until("location.protocol === 'http:' && document.readyState === 'complete'")
+        self.until("!window.left && location.protocol === 'http:' && document.readyState === 'complete'")
 
     def call(self, method, **params):
         self.number += 1
