@@ -8,7 +8,7 @@ import subprocess
 import threading
 
 PROGRAM = "dvisvgm"
-HOW_TO_GET = "There are no pictures of the pages, since there is no dvisvgm here. On Debian: apt-get install dvisvgm"
+HOW_TO_GET = "There are no pictures of the pages, since there is no dvisvgm here. On Debian: apt-get install dvisvgm texlive-base"
 # What is seen around a page's box, in points, so that what sticks out of it shows.
 MARGIN = 36
 MOST_BYTES = 128 << 20
