@@ -5,6 +5,7 @@ saved. Where both happened, nobody's text is lost: the file stays as it was type
 """
 import contextlib
 import errno
+import itertools
 import os
 import tempfile
 import threading
@@ -13,6 +14,8 @@ import time
 from served import Document, Ended
 
 SECONDS = 0.05
+# Behind so many looks it is asked whether there are more files.
+LOOKS = 10
 # A file whose time is as young as this may change once more without changing its time.
 YOUNG = 2 * 10**8
 
@@ -80,9 +83,9 @@ class File:
 class Desk:
     """A document's files, and the document. Its version grows with each change, for which others may wait."""
 
-    def __init__(self, program, main, paths, options=(), date=None):
-        """`paths` has the path of each file by its name."""
-        self.main, self.files = main, {name: File(path) for name, path in paths.items()}
+    def __init__(self, program, main, paths, options=(), date=None, more=None):
+        """`paths` has the path of each file by its name; `more` answers the same of the files that there are by then."""
+        self.main, self.files, self.more = main, {name: File(path) for name, path in paths.items()}, more
         there = {name: file.disk for name, file in self.files.items() if file.disk is not None}
         self.document = Document(program, main, there, options, date)
         # How often the metrics of a font have changed.
@@ -161,8 +164,12 @@ class Desk:
 
     def look(self):
         """Looks at the files again and again."""
-        while self.ended is None:
+        for at in itertools.count(1):
             time.sleep(SECONDS)
+            if self.ended is not None:
+                return
+            if self.more and at % LOOKS == 0:
+                self.take_more()
             for name, file in self.files.items():
                 with self.changed:
                     was_saved = self.is_saved(name) and not file.conflict
@@ -174,6 +181,15 @@ class Desk:
                     else:
                         file.conflict = True
                         self.tell()
+
+    def take_more(self):
+        """Takes files that came later."""
+        with contextlib.suppress(OSError):
+            for name, path in self.more().items():
+                if name not in self.files:
+                    with self.changed:
+                        self.files[name] = File(path)
+                        self.sent_disk(name)
 
     def wait(self, version, seconds):
         """Waits until the version is another one."""
