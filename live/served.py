@@ -56,7 +56,10 @@ class Document:
         self.line, self.end, self.pages, self._numbers = "", "", [], 0
         # What the next line counts from: the pages of the last whole run, or else of the last one; and the changes since.
         self._base, self._whole, self._since = [], False, 0
-        self._take(self._asked(b""))
+        first = self._asked(b"")
+        if not RUN.fullmatch(first):
+            raise Ended(self.process.wait())
+        self._take(first)
 
     def edit(self, name, place, removed, put):
         """Takes `removed` bytes out of a file at a place and puts others there; whether that was done."""
@@ -116,9 +119,7 @@ class Document:
                 self.line = line
                 return False
             self._take(line)
-            self.files.update({name: contents})
-            if contents is None:
-                del self.files[name]
+            self.files = {it: text for it, text in (self.files | {name: contents}).items() if text is not None}
             return True
 
     def _take(self, line):
