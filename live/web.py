@@ -7,6 +7,7 @@ import http.server
 import json
 import os
 import secrets
+import socketserver
 import sys
 import urllib.parse
 
@@ -32,6 +33,10 @@ class Web(http.server.ThreadingHTTPServer):
         self.port = self.server_address[1]
         # (a browser leaves port 80 out)
         self.hosts = {host + end for host in ("127.0.0.1", "localhost") for end in ([f":{self.port}"] + [""] * (self.port == 80))}
+
+    def server_bind(self):
+        # (without a search for the name of this machine)
+        socketserver.TCPServer.server_bind(self)
 
     def handle_error(self, request, client_address):
         # (a browser that goes away is no fault)
