@@ -3,6 +3,9 @@
 A file that changes on the disk is sent to the program as it is now. What is typed into the page is sent too, and put on the disk when it is
 saved. Where both happened, nobody's text is lost: the file stays as it was typed until the user chooses.
 """
+import contextlib
+import errno
+import itertools
 import os
 import tempfile
 import threading
@@ -11,6 +14,8 @@ import time
 from served import Document, Ended
 
 SECONDS = 0.05
+# Behind so many looks it is asked whether there are more files.
+LOOKS = 10
 # A file whose time is as young as this may change once more without changing its time.
 YOUNG = 2 * 10**8
 
@@ -30,6 +35,8 @@ def contents(path):
 
 def put(path, data):
     """Writes a file beside its place and renames it, so that it is the old one or the new one at any time."""
+    if os.path.lexists(path) and not os.access(path, os.W_OK):
+        raise PermissionError(errno.EACCES, os.strerror(errno.EACCES))
     place = os.path.realpath(path)
     number, beside = tempfile.mkstemp(dir=os.path.dirname(place), prefix=".vortex-")
     try:
@@ -76,11 +83,13 @@ class File:
 class Desk:
     """A document's files, and the document. Its version grows with each change, for which others may wait."""
 
-    def __init__(self, program, main, paths, options=(), date=None):
-        """`paths` has the path of each file by its name."""
-        self.main, self.files = main, {name: File(path) for name, path in paths.items()}
+    def __init__(self, program, main, paths, options=(), date=None, more=None):
+        """`paths` has the path of each file by its name; `more` answers the same of the files that there are by then."""
+        self.main, self.files, self.more = main, {name: File(path) for name, path in paths.items()}, more
         there = {name: file.disk for name, file in self.files.items() if file.disk is not None}
         self.document = Document(program, main, there, options, date)
+        # How often the metrics of a font have changed.
+        self.fonts = 0
         self.version, self.changed, self.ended = 1, threading.Condition(self.document.lock), None
         self.looking = threading.Thread(target=self.look, daemon=True)
         self.looking.start()
@@ -132,9 +141,22 @@ class Desk:
         try:
             if self.ended is None and request(name, *rest):
                 self.files[name].version += 1
+                if name.endswith(".tfm"):
+                    self.copy(name)
         except Ended as ended:
             self.ended = ended.args[0]
         self.tell()
+
+    def copy(self, name):
+        """Puts a file into the document's folder as it is by now; there what makes pictures of pages looks for the metrics of fonts."""
+        self.fonts += 1
+        path = os.path.join(self.document.folder, name)
+        with contextlib.suppress(OSError):
+            if name in self.document.files:
+                os.makedirs(os.path.dirname(path), exist_ok=True)
+                put(path, self.document.files[name])
+            else:
+                os.unlink(path)
 
     def tell(self):
         self.version += 1
@@ -142,8 +164,12 @@ class Desk:
 
     def look(self):
         """Looks at the files again and again."""
-        while self.ended is None:
+        for at in itertools.count(1):
             time.sleep(SECONDS)
+            if self.ended is not None:
+                return
+            if self.more and at % LOOKS == 0:
+                self.take_more()
             for name, file in self.files.items():
                 with self.changed:
                     was_saved = self.is_saved(name) and not file.conflict
@@ -155,6 +181,15 @@ class Desk:
                     else:
                         file.conflict = True
                         self.tell()
+
+    def take_more(self):
+        """Takes files that came later."""
+        with contextlib.suppress(OSError):
+            for name, path in self.more().items():
+                if name not in self.files:
+                    with self.changed:
+                        self.files[name] = File(path)
+                        self.sent_disk(name)
 
     def wait(self, version, seconds):
         """Waits until the version is another one."""

@@ -23,8 +23,9 @@ import time
 
 RUN = re.compile(r"(?:run|edit \d+): (\d+) pages(?:, resumed (\d+), formatted (\d+), reused (\d+))?, (.*)")
 ERROR = re.compile(r"error (\d+)(?: at (\S+) line (\d+))?")
-# Behind so many changes the program lets an earlier run go.
-MOST_CHANGES = 1000
+NAME = re.compile(r"[!-~]{1,255}")
+# Behind so many changes the program lets an earlier run go; no file has more bytes.
+MOST_CHANGES, MOST_BYTES = 1000, 67108864
 
 
 class Ended(Exception):
@@ -40,8 +41,8 @@ class Document:
         self._folder = tempfile.TemporaryDirectory(prefix="vortex-")
         self.folder = self._folder.name
         for name, contents in files.items():
-            if name.startswith("/") or ".." in name.split("/"):
-                raise ValueError(f"{name} lies outside of the document's folder")
+            if name.startswith("/") or ".." in name.split("/") or not NAME.fullmatch(name):
+                raise ValueError(f"{name!r} is no name of a file in the document's folder")
             path = os.path.join(self.folder, name)
             os.makedirs(os.path.dirname(path), exist_ok=True)
             with open(path, "wb") as file:
@@ -55,25 +56,26 @@ class Document:
         self.line, self.end, self.pages, self._numbers = "", "", [], 0
         # What the next line counts from: the pages of the last whole run, or else of the last one; and the changes since.
         self._base, self._whole, self._since = [], False, 0
-        self._take(self._asked(b""))
+        first = self._asked(b"")
+        if not RUN.fullmatch(first):
+            raise Ended(self.process.wait())
+        self._take(first)
 
     def edit(self, name, place, removed, put):
         """Takes `removed` bytes out of a file at a place and puts others there; whether that was done."""
         with self.lock:
             old = self.files.get(name, b"")
-            request = b"edit %d %d %d %s\n%s\n" % (place, removed, len(put), name.encode(), put)
-            return self._change(request, name, old[:place] + put + old[place + removed:])
+            return self._change("edit", [place, removed, len(put)], name, put + b"\n", old[:place] + put + old[place + removed:])
 
     def file(self, name, contents):
         """Gives a file its contents; whether that was done."""
         with self.lock:
             # (contents that it has are no change)
-            request = b"file %d %s\n%s\n" % (len(contents), name.encode(), contents)
-            return self.files.get(name) == contents or self._change(request, name, contents)
+            return self.files.get(name) == contents or self._change("file", [len(contents)], name, contents + b"\n", contents)
 
     def remove(self, name):
         """Takes a file away; whether that was done."""
-        return self._change(b"remove %s\n" % name.encode(), name, None)
+        return self._change("remove", [], name, b"", None)
 
     def page(self, number):
         """A page as a DVI file, counted from 1, or None."""
@@ -85,9 +87,9 @@ class Document:
 
     def locate(self, name, place):
         """The page by which a place is first read, one past the last where that is behind it, None where nothing hangs on the place."""
-        told = self._asked(b"locate %d %s\n" % (place, name.encode())).split(": ", 1)[1]
-        number = re.search(r"\d+", told)
-        return number and int(number[0]) + told.startswith("after")
+        told = self._asked(b"locate %d %s\n" % (place, name.encode())) if NAME.fullmatch(name) else ""
+        number = re.search(r"\d+", told.partition(": ")[2])
+        return number and int(number[0]) + ("after" in told)
 
     @property
     def error(self):
@@ -107,16 +109,17 @@ class Document:
             self.process.communicate()
             self._folder.cleanup()
 
-    def _change(self, request, name, contents):
+    def _change(self, word, numbers, name, put, contents):
+        # (one that is refused by its line would have its bytes read as requests)
+        if not (NAME.fullmatch(name) and all(0 <= number <= MOST_BYTES for number in numbers)):
+            return False
         with self.lock:
-            line = self._asked(request)
+            line = self._asked(" ".join([word, *map(str, numbers), name]).encode() + b"\n" + put)
             if not RUN.fullmatch(line):
                 self.line = line
                 return False
             self._take(line)
-            self.files.update({name: contents})
-            if contents is None:
-                del self.files[name]
+            self.files = {it: text for it, text in (self.files | {name: contents}).items() if text is not None}
             return True
 
     def _take(self, line):

@@ -7,6 +7,7 @@ import http.server
 import json
 import os
 import secrets
+import socketserver
 import sys
 import urllib.parse
 
@@ -30,7 +31,12 @@ class Web(http.server.ThreadingHTTPServer):
         super().__init__(("127.0.0.1", port), Handler)
         self.desk, self.pictures, self.words, self.token = desk, pictures, words, secrets.token_urlsafe(18)
         self.port = self.server_address[1]
-        self.hosts = {f"127.0.0.1:{self.port}", f"localhost:{self.port}"}
+        # (a browser leaves port 80 out)
+        self.hosts = {host + end for host in ("127.0.0.1", "localhost") for end in ([f":{self.port}"] + [""] * (self.port == 80))}
+
+    def server_bind(self):
+        # (without a search for the name of this machine)
+        socketserver.TCPServer.server_bind(self)
 
     def handle_error(self, request, client_address):
         # (a browser that goes away is no fault)
@@ -84,7 +90,7 @@ class Handler(http.server.BaseHTTPRequestHandler):
 
     def body(self):
         size = self.headers.get("Content-Length", "0")
-        if not size.isdecimal() or int(size) > MOST_BYTES or "Transfer-Encoding" in self.headers:
+        if not size.isdecimal() or len(size) > 9 or int(size) > MOST_BYTES or "Transfer-Encoding" in self.headers:
             raise Refused(413, "That is no file.")
         return self.rfile.read(int(size))
 
@@ -131,7 +137,7 @@ class Handler(http.server.BaseHTTPRequestHandler):
         if found is None or found[0] is None:
             raise Refused(404, "There is no such page any more.")
         dvi, log = found
-        name, picture, complaint = self.server.pictures.picture(dvi)
+        name, picture, complaint = self.server.pictures.picture(dvi, self.server.desk.fonts)
         self.tell({"picture": name, "svg": picture, "complaint": complaint, "log": log.decode(errors="replace")})
 
     def get_log(self):

@@ -17,7 +17,7 @@ def program():
 class Browser:
     """A browser with one page."""
 
-    def __init__(self, address, width=1280, height=800):
+    def __init__(self, address, width=1280, height=800, scale=1):
         self.folder = tempfile.mkdtemp(prefix="browser-")
         (theirs, self.ours), (self.answers, their_answers) = os.pipe(), os.pipe()
         # (numbers that are far from those which it looks for its pipe at)
@@ -32,9 +32,14 @@ class Browser:
         target = self.call("Target.createTarget", url="about:blank")["targetId"]
         self.session = self.call("Target.attachToTarget", targetId=target, flatten=True)["sessionId"]
         self.call("Page.enable")
-        self.call("Emulation.setDeviceMetricsOverride", width=width, height=height, deviceScaleFactor=1, mobile=False)
+        self.call("Emulation.setDeviceMetricsOverride", width=width, height=height, deviceScaleFactor=scale, mobile=False)
+        self.go(address)
+
+    def go(self, address):
+        """Opens an address, also that which is open, and waits for what lies there."""
+        self.value("window.left = true")
         self.call("Page.navigate", url=address)
-        self.until("location.protocol === 'http:' && document.readyState === 'complete'")
+        self.until("!window.left && location.protocol === 'http:' && document.readyState === 'complete'")
 
     def call(self, method, **params):
         self.number += 1

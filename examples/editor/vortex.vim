@@ -12,6 +12,7 @@
 let s:program = empty($VORTEX) ? expand('<sfile>:p:h:h:h') . '/vortex' : $VORTEX
 let s:names = []
 let s:sent = {}     " the lines of each buffer that is followed, as they were sent
+let s:ends = {}     " what ends its lines
 let s:run = ''
 let s:place = ''
 
@@ -34,14 +35,19 @@ function! s:Send(request) abort
   endif
 endfunction
 
-" The bytes of lines, each with the line feed behind it.
-function! s:Bytes(lines) abort
-  return empty(a:lines) ? '' : join(a:lines, "\n") . "\n"
+function! s:End(buffer) abort
+  return getbufvar(a:buffer, '&fileformat') ==# 'dos' ? "\r\n" : "\n"
+endfunction
+
+" The bytes of lines, each with its end behind it.
+function! s:Bytes(buffer, lines) abort
+  return empty(a:lines) ? '' : join(a:lines, s:ends[a:buffer]) . s:ends[a:buffer]
 endfunction
 
 function! s:SendAll(buffer) abort
   let s:sent[a:buffer] = getbufline(a:buffer, 1, '$')
-  let bytes = s:Bytes(s:sent[a:buffer])
+  let s:ends[a:buffer] = s:End(a:buffer)
+  let bytes = s:Bytes(a:buffer, s:sent[a:buffer])
   call s:Send(printf("file %d %s\n%s\n", len(bytes), bufname(a:buffer), bytes))
 endfunction
 
@@ -55,12 +61,12 @@ function! s:Changed(buffer, start, end, added, changes) abort
   let lines = s:sent[a:buffer]
   let [old, new] = [lines[first - 1 : before - 2], now > first ? getbufline(a:buffer, first, now - 1) : []]
   let old = before > first ? old : []
-  if len(lines) - len(old) + len(new) != getbufinfo(a:buffer)[0].linecount
-    " (an empty buffer has one line)
+  if len(lines) - len(old) + len(new) != getbufinfo(a:buffer)[0].linecount || s:End(a:buffer) !=# s:ends[a:buffer]
+    " (an empty buffer has one line, and 'fileformat' may have changed)
     return s:SendAll(a:buffer)
   endif
-  let place = first > 1 ? len(s:Bytes(lines[: first - 2])) : 0
-  let [removed, put] = [len(s:Bytes(old)), s:Bytes(new)]
+  let place = first > 1 ? len(s:Bytes(a:buffer, lines[: first - 2])) : 0
+  let [removed, put] = [len(s:Bytes(a:buffer, old)), s:Bytes(a:buffer, new)]
   call s:Send(printf("edit %d %d %d %s\n%s\n", place, removed, len(put), bufname(a:buffer), put))
   let s:sent[a:buffer] = (first > 1 ? lines[: first - 2] : []) + new + lines[before - 1 :]
 endfunction
@@ -68,7 +74,10 @@ endfunction
 function! s:Locate() abort
   if has_key(s:sent, bufnr())
     call listener_flush()
-    call s:Send(printf("locate %d %s\n", line2byte('.') + col('.') - 2, bufname()))
+    if s:End(bufnr()) !=# s:ends[bufnr()]
+      call s:SendAll(bufnr())
+    endif
+    call s:Send(printf("locate %d %s\n", max([line2byte('.') + col('.') - 2, 0]), bufname()))
   endif
 endfunction
 
