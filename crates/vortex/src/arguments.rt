@@ -1,7 +1,6 @@
 //! The words of the command line, and the search path of the environment.
 ghost use Rattle.std.specs.Prelude.{◌≡◌, ◌≢◌, [], IsErr, IsOkAnd, string_bytes};
 ghost use Rattle.std.specs.IoError.{error_kind};
-ghost use Rattle.std.specs.declared.env.VarError.TheVariants.{OutOfMemory};
 
 use std::alloc::{AllocError, Global};
 use std::env::{self, VarError};
@@ -38,8 +37,8 @@ pub fn are_text<R: Env + AllocGlobal>(rt: &R, words: &[String]) -> bool {
 
 /// The search path where none can be read: an empty one, as where there is none or it isn't UTF-8, unless memory was wanting.
 fn path_after(alloc: Global, error: VarError) -> Result<String, AllocError>
-    ensures wanting { error ≡ OutOfMemory → IsErr result }
-    ensures unreadable { error ≢ OutOfMemory → IsOkAnd result (λ path. string_bytes path ≡ []) }
+    ensures wanting { error ≡ VarError.OutOfMemory → IsErr result }
+    ensures unreadable { error ≢ VarError.OutOfMemory → IsOkAnd result (λ path. string_bytes path ≡ []) }
 {
     match error {
         VarError::OutOfMemory => Err(AllocError),
