@@ -7,6 +7,8 @@ import sys
 TOP = os.path.normpath(os.path.join(os.path.dirname(os.path.abspath(__file__)), ".."))
 CRATES = os.path.join(TOP, "crates")
 READ = (".rt", ".antt")
+# (what a check asks doesn't hang on the folders of who calls it)
+os.environ.pop("VORTEX_PATH", None)
 
 
 @functools.lru_cache(maxsize=None)

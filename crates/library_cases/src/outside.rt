@@ -39,8 +39,9 @@ fn write_put(text: &mut String, put: Put) -> Result<(), AllocError> {
     }
 }
 
-/// What comes of the current folder and standard output by lines of `fetch NAME`, `say TEXT` and `save NAME TEXT`, and of
-/// `write NAME TEXT`, `grow NAME SIZE`, `read NAME` and `remove NAME`, which are done by std's file calls.
+/// What comes of the current folder, a path and standard output by lines of `fetch NAME`, `along PATH NAME`, `say TEXT` and
+/// `save NAME TEXT`, and of `write NAME TEXT`, `grow NAME SIZE`, `read NAME`, `remove NAME`, `make FOLDER` and `unmake FOLDER`, which
+/// are done by std's file calls.
 pub fn write_folder(rt: &HostRuntime, text: &mut String, lines: &str) -> io::Result<()> {
     let read = FilesRead::new(rt.alloc());
     write_calls(rt, text, &read, lines)
@@ -63,6 +64,7 @@ fn write_call(rt: &HostRuntime, text: &mut String, read: &FilesRead, line: &str)
     let (word, rest) = first_word(line);
     match word {
         "fetch" | "say" | "save" => Ok(write_outside(rt, text, read, word, rest)?),
+        "along" => Ok(write_along(rt, text, read, rest)?),
         _ => write_done(rt, text, word, rest),
     }
 }
@@ -80,6 +82,18 @@ fn write_outside(
     write_called(rt.alloc(), text, &mut source, &mut sink, word, rest)
 }
 
+/// What is fetched of the current folder and along a path, by the path and a name.
+fn write_along(
+    rt: &HostRuntime,
+    text: &mut String,
+    read: &FilesRead,
+    rest: &str,
+) -> Result<(), AllocError> {
+    let (path, name) = first_word(rest);
+    let mut source = DirSource::along(rt, path, read);
+    write_fetched(text, source.fetch(rt.alloc(), name.as_bytes()))
+}
+
 fn write_done(rt: &HostRuntime, text: &mut String, word: &str, rest: &str) -> io::Result<()> {
     let (name, given) = first_word(rest);
     match word {
@@ -87,6 +101,8 @@ fn write_done(rt: &HostRuntime, text: &mut String, word: &str, rest: &str) -> io
         "grow" => fs::create(rt, name)?.set_len(given.parse().unwrap_or(0))?,
         "read" => return write_read(rt, text, name),
         "remove" => fs::remove_file(rt, name)?,
+        "make" => fs::create_dir(rt, name)?,
+        "unmake" => fs::remove_dir(rt, name)?,
         _ => return Ok(text.push_str("malformed")?),
     }
     Ok(text.push_str("done")?)

@@ -1,3 +1,4 @@
 pub mod Told
 pub mod CutShort
 mod FilesOf
+mod Along

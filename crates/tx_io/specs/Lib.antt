@@ -7,3 +7,4 @@ pub mod Cut
 pub mod Entries
 pub mod Memory
 pub mod Names
+pub mod Places

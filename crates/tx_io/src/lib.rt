@@ -2,12 +2,12 @@
 //! the other as they come in, a `Sink` takes text and files. Each counts its faults, so that code above can't blame a fault that
 //! never came.
 //!
-//! Proved: what each answer says of content and counts, of those in memory; of the real ones, counts alone. Only tested:
-//! real files and standard input. Trusted: std's calls of files and readers.
+//! Proved: what each answer says of content and counts, of those in memory; of the real ones, counts alone, and at which places a name
+//! is looked for. Only tested: real files and standard input. Trusted: std's calls of files and readers.
 //!
 //! Read `names`, `source`, `inlet` and `sink`, then the implementations: `steady` and `memory`, over `file_map`, and the real ones,
-//! `std_inlet`, and `dir_source` and `dir_sink`, which keep the cause of a fault (`cause`), share what was read (`files_read`) and save
-//! beside the place (`saving`).
+//! `std_inlet`, and `dir_source` and `dir_sink`, which keep the cause of a fault (`cause`), look along a path (`places`), share what was
+//! read (`files_read`) and save beside the place (`saving`).
 #![tactic(auto)]
 
 pub mod cause;
@@ -18,6 +18,7 @@ pub mod files_read;
 pub mod inlet;
 pub mod memory;
 mod names;
+mod places;
 mod saving;
 pub mod sink;
 pub mod source;

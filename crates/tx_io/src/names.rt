@@ -19,7 +19,7 @@ pub(crate) fn is_name(bytes: &[u8]) -> bool
     1 <= bytes.len() && bytes.len() <= 255 && are_visible(bytes)
 }
 
-/// A name as a path from the current folder on.
+/// A name, or the place of one, as a path from the current folder on.
 pub(crate) fn path_of(name: &[u8]) -> io::Result<&str> {
     match str::from_utf8(name) {
         Ok(path) => Ok(path),

@@ -1,9 +1,9 @@
-//! The words of the command line.
-ghost use Rattle.std.specs.Prelude.{◌≡◌, ◌≢◌, [], IsErr, IsOkAnd};
+//! The words of the command line, and the search path of the environment.
+ghost use Rattle.std.specs.Prelude.{◌≡◌, ◌≢◌, [], IsErr, IsOkAnd, string_bytes};
 ghost use Rattle.std.specs.IoError.{error_kind};
 
 use std::alloc::{AllocError, Global};
-use std::env;
+use std::env::{self, VarError};
 use std::io::{self, ErrorKind};
 use std::rt::Env;
 
@@ -33,4 +33,23 @@ pub fn arguments<R: Env + AllocGlobal>(rt: &R) -> Result<Vec<String>, AllocError
 /// Whether no words stand for words that can't be read.
 pub fn are_text<R: Env + AllocGlobal>(rt: &R, words: &[String]) -> bool {
     !words.is_empty() || read_arguments(rt).is_ok()
+}
+
+/// The search path where none can be read: an empty one, as where there is none or it isn't UTF-8, unless memory was wanting.
+fn path_after(alloc: Global, error: VarError) -> Result<String, AllocError>
+    ensures wanting { error ≡ VarError.OutOfMemory → IsErr result }
+    ensures unreadable { error ≢ VarError.OutOfMemory → IsOkAnd result (λ path. string_bytes path ≡ []) }
+{
+    match error {
+        VarError::OutOfMemory => Err(AllocError),
+        VarError::NotPresent | VarError::NotUnicode => Ok(String::new(alloc)),
+    }
+}
+
+/// The folders behind the current one in which files are looked for, with colons between them: what `VORTEX_PATH` says.
+pub fn search_path<R: Env + AllocGlobal>(rt: &R) -> Result<String, AllocError> {
+    match env::var(rt, "VORTEX_PATH") {
+        Ok(path) => Ok(path),
+        Err(error) => path_after(rt.alloc(), error),
+    }
 }

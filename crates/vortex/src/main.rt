@@ -1,7 +1,7 @@
-//! The program `vortex`: it hands the words of the command line, the current folder and standard output to the top call of
-//! `vortex_cmd`, which does all the rest, or, where the words ask to serve a document, these and standard input to the one that
-//! does so; and it ends with the answer as status. Where not all went well it then tells why on standard error, by what was said
-//! and by a second look at the words, the script and the faults of the folder.
+//! The program `vortex`: it hands the words of the command line, the current folder, with the search path behind it, and standard
+//! output to the top call of `vortex_cmd`, which does all the rest, or, where the words ask to serve a document, these and standard
+//! input to the one that does so; and it ends with the answer as status. Where not all went well it then tells why on standard
+//! error, by what was said and by a second look at the words, the script and the faults of the folder.
 //!
 //! Read `arguments`, then `look`, the second look, of which `tx_causes` makes words, and `serving`.
 #![tactic(auto)]
@@ -10,7 +10,7 @@ mod arguments;
 mod look;
 mod serving;
 
-use arguments::{are_text, arguments};
+use arguments::{are_text, arguments, search_path};
 use look::causes;
 use serving::{asks_to_serve, served};
 use std::process::ExitCode;
@@ -26,8 +26,13 @@ fn main(rt: HostRuntime) -> ExitCode {
         return ExitCode::from(6);
     };
     let words = words.as_slice();
+    let Ok(path) = search_path(&rt) else {
+        tell(&rt, alloc, "no memory is left to read VORTEX_PATH");
+        return ExitCode::from(6);
+    };
+    let path = path.as_str();
     match asks_to_serve(alloc, words) {
-        Ok(true) => return ExitCode::from(served(&rt, alloc, words)),
+        Ok(true) => return ExitCode::from(served(&rt, alloc, words, path)),
         Ok(false) => {}
         Err(_) => {
             tell(&rt, alloc, "no memory is left to read the command line");
@@ -35,7 +40,7 @@ fn main(rt: HostRuntime) -> ExitCode {
         }
     }
     let read = FilesRead::new(alloc);
-    let mut source = DirSource::new(&rt, &read);
+    let mut source = DirSource::along(&rt, path, &read);
     let mut sink = DirSink::new(&rt, alloc, &read);
     let mut steps = rt.steps();
     let status = vortex(alloc, words, &mut source, &mut sink, &mut steps);

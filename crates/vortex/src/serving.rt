@@ -39,14 +39,14 @@ fn causes<R: Files + Print, B: BufRead>(
     }
 }
 
-/// Serves the document that the words ask for, and answers the status.
-pub fn served(rt: &HostRuntime, alloc: Global, words: &[String]) -> u8 {
+/// Serves the document that the words ask for, whose files may lie along a search path, and answers the status.
+pub fn served(rt: &HostRuntime, alloc: Global, words: &[String], path: &str) -> u8 {
     let Ok(reader) = BufReader::new(alloc, rt.reader()) else {
         tell(rt, alloc, "no memory is left to read standard input");
         return 6;
     };
     let read = FilesRead::new(alloc);
-    let mut source = DirSource::new(rt, &read);
+    let mut source = DirSource::along(rt, path, &read);
     let mut sink = DirSink::passing(rt, alloc, &read);
     let mut inlet = StdInlet::new(reader);
     let mut steps = rt.steps();
