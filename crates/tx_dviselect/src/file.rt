@@ -33,7 +33,12 @@ fn append_fonts_of(
     ensures fonts { OnOk result (fonts.new ≡ fonts.old ++ page.now.fonts) }
     ensures names { All IsNamed page.now.fonts }
 {
-    let mut more = Items::from_slice(alloc, page.fonts())?;
+    // Most pages define none.
+    let defined = page.fonts();
+    if defined.is_empty() {
+        return Ok(());
+    }
+    let mut more = Items::from_slice(alloc, defined)?;
     fonts.append(&mut more)
 }
 
