@@ -112,31 +112,36 @@ class Dvi:
         state[axis] += by
 
 
-def difference(one, other, apart):
-    """Where two lists of characters differ, nothing where they don't: each stands at most `apart` sp from the other's place."""
+def difference(what, one, other, place, apart):
+    """Where two lists of things on pages differ, nothing where they don't: each of them has its place behind so many of its parts, and
+    stands at most `apart` sp from the other's."""
     if len(one) != len(other):
-        return f"{len(one)} characters, Knuth's TeX {len(other)}"
+        return f"{len(one)} {what}s, Knuth's TeX {len(other)}"
+    without_place = lambda it: it[:place] + it[place + 2:]
     for at, (mine, theirs) in enumerate(zip(one, other), 1):
-        if mine[:2] != theirs[:2] or any(apart < abs(a - b) for a, b in zip(mine[2:], theirs[2:])):
-            return f"character {at} is {mine}, Knuth's TeX {theirs}"
+        if without_place(mine) != without_place(theirs) or any(apart < abs(a - b) for a, b in zip(mine[place:place + 2], theirs[place:place + 2])):
+            return f"{what} {at} is {mine}, Knuth's TeX {theirs}"
     return None
 
 
-def page_complaint(folder, widths=None):
-    """Where the pages of both differ, nothing where they don't. Characters may stand 1sp off for each one of their page."""
+def page_complaint(folder, widths=None, apart=0):
+    """Where the pages of both differ, nothing where they don't. All may stand so far apart, and characters 1sp more for each one of their
+    page."""
     paths = [os.path.join(folder, name) for name in ("a.dvi", "main.dvi")]
     there = [os.path.exists(path) for path in paths]
     if there != [True, True]:
         return None if there == [False, False] else f"DVI files {there}"
     mine, theirs = [Dvi(open(path, "rb").read(), widths) for path in paths]
-    for number, (one, other) in enumerate(zip(mine.pages, theirs.pages), 1):
-        if one != other:
-            return f"page {number}: {one}, Knuth's TeX {other}"
-    for number, (one, other) in enumerate(zip(mine.characters, theirs.characters), 1):
-        if complaint := difference(one, other, len(one)):
+    for number, ((counts, one), (other_counts, other)) in enumerate(zip(mine.pages, theirs.pages), 1):
+        if counts != other_counts:
+            return f"page {number}: {counts}, Knuth's TeX {other_counts}"
+        if complaint := difference("rule", one, other, 0, apart):
             return f"page {number}: {complaint}"
-    if mine.specials != theirs.specials:
-        return f"specials {mine.specials}, Knuth's TeX {theirs.specials}"
+    for number, (one, other) in enumerate(zip(mine.characters, theirs.characters), 1):
+        if complaint := difference("character", one, other, 2, apart + len(one)):
+            return f"page {number}: {complaint}"
+    if complaint := difference("special", mine.specials, theirs.specials, 1, apart):
+        return complaint
     if (mine.defined, mine.used) != (theirs.defined, theirs.used):
         return f"fonts {mine.defined} {mine.used}, Knuth's TeX {theirs.defined} {theirs.used}"
     return None if mine.post == theirs.post else f"sizes {mine.post}, Knuth's TeX {theirs.post}"

@@ -23,12 +23,12 @@ ERRORS = [
     (2, "Undefined control sequence"),
     (3, "Missing number|Improper alphabetic constant"),
     (4, "Illegal unit of measure|Missing = inserted for |Incompatible glue units|Missing `to' inserted"),
-    (5, r"Bad (character|register) code|Bad (mathchar|number)\b|Invalid code|Bad space factor|Font .* has only|You can't \S{0,4}insert255"),
+    (5, r"Bad (character|register|delimiter) code|Bad (mathchar|number)\b|Invalid code|Bad space factor|Font .* has only|You can't \S{0,4}insert255"),
     (6, "Dimension too large"),
     (7, "Number too big"),
     (8, "Huge page cannot be shipped out|Arithmetic overflow"),
     (10, r"You can't use a prefix|You can't use `\S{0,4}long'|You can't use .* after "),
-    (11, r"Too many }'s|Extra }, or forgotten|Extra \S{0,4}endgroup|Missing } inserted|Missing \S{0,4}endgroup inserted"),
+    (11, r"Too many }'s|Extra }, or forgotten|Extra \S{0,4}endgroup|Missing } inserted|Missing \S{0,4}endgroup inserted|(Extra|Missing) \S{0,4}right\."),
     (12, "Use of .* doesn't match"),
     (13, "Paragraph ended before "),
     (14, "Argument of .* has an extra }"),
@@ -42,7 +42,7 @@ ERRORS = [
     (20, "I can't find file"),
     (22, "Parameters must be numbered|You already have nine|Illegal parameter number"),
     (23, r"Missing \S{0,4}endcsname inserted|Extra \S{0,4}endcsname"),
-    (24, "You can't use |Missing [$] inserted|Improper .*prevdepth"),
+    (24, "You can't use |Missing [$] inserted|Improper .*(prevdepth|setbox|halign)|Please use .*mathaccent"),
     (32, r"Misplaced |Missing # inserted|Only one # is|Extra alignment tab|Missing \S{0,4}cr inserted"),
     (34, "A <box> was supposed|Leaders not followed by proper glue"),
     (34, r"\S{0,4}vsplit needs a |Insertions can only be added to a vbox"),
@@ -50,9 +50,10 @@ ERRORS = [
     (28, "Unbalanced output routine|Output routine didn't use all of "),
     (29, "Output loop"),
     (30, "Infinite glue shrinkage "),
-    (31, "Math formula deleted|Double (super|sub)script|Ambiguous; you need|Limit controls must|.* is undefined [(]character|Illegal math"),
+    (31, "Math formula deleted|Double (super|sub)script|Ambiguous; you need|Limit controls must|.* is undefined [(]character|Illegal math|Display math should end"),
     (35, "Incompatible magnification|Illegal magnification"),
     (36, "Emergency stop"),
+    (39, "Missing delimiter"),
 ]
 
 
@@ -65,6 +66,39 @@ def ours(program, folder, names, options=(), budget=20000):
         with open(os.path.join(folder, "a.log"), "rb") as file:
             log = file.read()
     return said, log
+
+
+def saved(folder):
+    """What a run saved, which is taken away."""
+    found = []
+    for name in ("a.dvi", "a.log"):
+        path = os.path.join(folder, name)
+        found.append(open(path, "rb").read() if os.path.exists(path) else None)
+        if found[-1] is not None:
+            os.remove(path)
+    return found
+
+
+def write_main(folder, text):
+    """Writes the main file, and leaves all others."""
+    with open(os.path.join(folder, "main.tex"), "w", encoding="latin-1") as file:
+        file.write(text)
+
+
+def edit_complaint(program, folder, names, changed, script, budget):
+    """What is wrong with what the program saves behind edits of its main file, nothing where that is what a fresh run makes of the file
+    as the edits change it."""
+    with open(os.path.join(folder, "edits"), "w", encoding="latin-1") as file:
+        file.write(script)
+    saved(folder)
+    said, _ = ours(program, folder, names, ["--script", "edits"], budget)
+    *_, last = re.findall(r"^edit \d+: (\d+ pages), resumed \d+, formatted \d+, reused \d+,( .*)", said, re.M) or [("", said)]
+    behind = saved(folder)
+    write_main(folder, changed)
+    fresh, _ = ours(program, folder, names, [], budget)
+    if fresh != f"run: {last[0]},{last[1]}\n":
+        return f"behind {script!r}: {last}, a fresh run {fresh}"
+    return None if behind == saved(folder) else f"behind {script!r}: other files than of a fresh run"
 
 
 def shown_as_knuth(data):

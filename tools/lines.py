@@ -142,6 +142,33 @@ def difference(mine, theirs):
     return None if mine.post == theirs.post else f"sizes {mine.post}, Knuth's TeX {theirs.post}"
 
 
+def may_have_other_lines(folder, text):
+    """Whether Knuth's TeX, as it traces the paragraphs of a document, takes breaks whose demerits others have too, or lines that don't
+    fit; where \\looseness is set, whether any lines that it may take are such."""
+    knuth.write_main(folder, text.replace("\n", "\\tracingparagraphs=1\n", 1))
+    log = knuth.log_of(folder, "-halt-on-error") or ""
+    knuth.write_main(folder, text)
+    breaks, reached, passed, last = {}, [], False, False
+    for line in log.splitlines():
+        if found := re.match(r"@(\S*) via @@(\d+) b=\S+ p=\S+ d=(\S+)", line):
+            # lines to one break stand before the best ones of them
+            if found[3] == "*":
+                return True
+            reached = [] if passed else reached
+            breaks = {} if passed and last else breaks
+            passed, last = False, found[1] == "\\par"
+            reached.append(breaks.get(int(found[2]), (0, False))[0] + int(found[3]))
+        elif found := re.match(r"@@(\d+): line \S+ t=(-?\d+) -> @@(\d+)", line):
+            number, total, before = map(int, found.groups())
+            breaks[number] = total, reached.count(total) > 1 or breaks.get(before, (0, False))[1]
+            passed = True
+            if last and ("\\looseness" in text or total == min(reached)) and breaks[number][1]:
+                return True
+        elif re.match(r"@\w+pass$", line):
+            breaks = {}
+    return False
+
+
 def dvitype_complaint(folder):
     """What dvitype says against our file."""
     if not shutil.which("dvitype"):
@@ -149,6 +176,15 @@ def dvitype_complaint(folder):
     said = subprocess.run(["dvitype", "-output-level=4", "a.dvi"], cwd=folder, capture_output=True, text=True, errors="replace")
     bad = re.search(r"^[^\[].*(Bad DVI|invalid|illegal|already|not loaded|match|should be|not empty|undefined|bad font|checksum|TFM).*$", said.stdout + said.stderr, re.M)
     return f"dvitype: {said.returncode} {bad and bad[0]}" if said.returncode or bad else None
+
+
+def files_complaint(folder, mine, other):
+    """What is wrong with our file beside that of Knuth's TeX, if either is there."""
+    if mine is None or other is None:
+        return None if mine is other else f"files {mine}, Knuth's TeX {other}"
+    if len(mine.pages) != len(other.pages):
+        return f"{len(mine.pages)} pages, Knuth's TeX {len(other.pages)}"
+    return difference(mine, other) or dvitype_complaint(folder)
 
 
 def compared(folder, marked, said, log, told, files=()):

@@ -4,11 +4,12 @@
 //!
 //! Proved: it is safe, whatever is given.
 //!
-//! Read `numbers`, `files`, `scripts`, `primitives`, `lists`, `boxes` and `packing`, `paragraphs`, and `outside`; then `fonts`,
-//! `dvi`, `ligatures`, `words` and `hyphenating`; then `documents` and `edits`, `rows`, `runs` and `sessions`.
+//! Read `numbers`, `files`, `scripts`, `primitives`, `lists`, `boxes` and `packing`, `displays`, `paragraphs`, and `outside`; then
+//! `fonts`, `dvi`, `ligatures`, `words` and `hyphenating`; then `documents` and `edits`, `rows`, `runs` and `sessions`.
 #![tactic(auto)]
 
 mod boxes;
+mod displays;
 mod documents;
 mod dvi;
 mod edits;
@@ -169,6 +170,7 @@ fn write_alone(
         "test" | "place" | "standing" => primitives::write_answer(text, word, rest),
         "box" | "twin" | "alike" | "page" | "body" => boxes::write_answer(alloc, text, word, rest),
         "hpack" | "vpack" => packing::write_answer(alloc, text, word, rest),
+        "edge" | "display" | "eqno" | "leqno" => displays::write_answer(alloc, text, word, rest),
         "breaks" => paragraphs::write_answer(alloc, text, rest),
         _ => numbers::write_answer(alloc, text, word, rest),
     }

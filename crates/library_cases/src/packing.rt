@@ -32,7 +32,7 @@ pub fn write_answer(
     }
 }
 
-fn goal_of(text: &str) -> Option<Goal>
+pub fn goal_of(text: &str) -> Option<Goal>
     ensures { IfSome result IsGoal }
 {
     if text == "=" {

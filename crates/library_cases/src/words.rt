@@ -225,6 +225,7 @@ fn write_node(text: &mut String, node: &Node) -> Result<(), AllocError> {
         Node::Shared(item) => write_shared(text, item),
         Node::Discretionary(item) => write_discretionary(text, item),
         Node::Box(_, _) | Node::Adjustment(_) | Node::Insertion(_) => text.push_str("other"),
+        Node::BoxLeaders(_) => text.push_str("other"),
     }
 }
 

@@ -7,7 +7,7 @@ use Rattle.tx_node.specs.declared.head.Setting.TheVariants.{Natural}
 use Rattle.tx_node.specs.declared.plain.Shared.{Shared}
 use Rattle.tx_node.specs.declared.plain.Shared.TheVariants.{Rule, Leaders, Special, Ligature, Mark}
 use Rattle.tx_node.specs.declared.rule.Rule.{Rule as RuleSides}
-use Rattle.tx_node.specs.Items.{Item, none, plain, shared, boxed, discretionary, adjustment, insertion, PackedBox, box_item, items_of}
+use Rattle.tx_node.specs.Items.{Item, none, plain, shared, boxed, discretionary, adjustment, insertion, box_leaders, PackedBox, box_item, items_of}
 use Rattle.tx_node.specs.Counts.{nesting_of}
 use Rattle.tx_pack.specs.declared.types.Goal.TheVariants.{To}
 use Rattle.tx_pack.specs.declared.types.PackError.{PackError}
@@ -143,3 +143,4 @@ between head (boxed shift inner_head inner) = boxed shift inner_head inner
 between head (discretionary broken before behind) = discretionary broken before behind
 between head (adjustment inner) = adjustment inner
 between head (insertion inserted inner) = insertion inserted inner
+between head (box_leaders spread repeated inner) = box_leaders spread repeated inner

@@ -43,6 +43,7 @@ fn between(alloc: Global, head: &BoxHead, node: &Node) -> Result<Node, AllocErro
         Node::Shared(item) => shared_between(alloc, head, node, item),
         Node::Plain(_) | Node::Box(_, _) | Node::Discretionary(_) => node.clone(),
         Node::Adjustment(_) | Node::Insertion(_) => node.clone(),
+        Node::BoxLeaders(_) => node.clone(),
     }
 }
 

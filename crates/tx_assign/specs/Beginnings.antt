@@ -71,12 +71,16 @@ primitive_variable (primitive.Limits kind) = None
 primitive_variable (primitive.Style style) = None
 primitive_variable primitive.Choice = None
 primitive_variable (primitive.Fraction kind) = None
+primitive_variable (primitive.Delimited what) = None
+primitive_variable (primitive.Coded kind) = None
+primitive_variable primitive.Accent = None
 primitive_variable primitive.MathGlue = None
 primitive_variable primitive.Nonscript = None
 primitive_variable primitive.Insert = None
 primitive_variable primitive.DeadCycles = None
 primitive_variable primitive.Align = None
 primitive_variable (primitive.AlignWord word) = None
+primitive_variable (primitive.EquationNumber side) = None
 primitive_variable (primitive.Page quantity) = None
 
 -- a register's name of its own is a left side too

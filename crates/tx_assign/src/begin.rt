@@ -40,9 +40,11 @@ fn of_primitive(primitive: Primitive) -> Option<Variable>
         Primitive::FamilyFont(_) | Primitive::MathChar | Primitive::Atom(_) => None,
         Primitive::Center | Primitive::Limits(_) | Primitive::Style(_) => None,
         Primitive::Choice | Primitive::Fraction(_) => None,
+        Primitive::Delimited(_) | Primitive::Coded(_) | Primitive::Accent => None,
         Primitive::MathGlue | Primitive::Nonscript => None,
         Primitive::Insert | Primitive::DeadCycles | Primitive::Page(_) => None,
         Primitive::Align | Primitive::AlignWord(_) => None,
+        Primitive::EquationNumber(_) => None,
     }
 }
 

@@ -3,7 +3,7 @@ use Rattle.std.proofs.Common.{◌≡◌, ◌∙◌, ◌++◌, ◌∷◌, [], Lis
 use Rattle.std.proofs.lemmas.Bool.{true≢false}
 use Rattle.std.proofs.lemmas.List.{append-nil, append_assoc}
 use Rattle.tx_node.specs.declared.plain.Shared.TheVariants.{Rule, Leaders, Special, Ligature, Mark}
-use Rattle.tx_node.specs.Items.{Item, plain, shared, boxed, discretionary, adjustment, insertion}
+use Rattle.tx_node.specs.Items.{Item, plain, shared, boxed, discretionary, adjustment, insertion, box_leaders}
 use Rattle.tx_par.specs.declared.line.Line.{Line}
 use Rattle.tx_par.specs.LineLists.{line_of, with_items}
 use Rattle.tx_box.specs.Leaving.{any_leaves_box}
@@ -26,6 +26,7 @@ stays_behind own (boxed shift head inner ∷ rest) h = stays_behind (own ++ boxe
 stays_behind own (discretionary head before behind ∷ rest) h = stays_behind (own ++ discretionary head before behind ∷ []) rest h ∙ regrouped own (discretionary head before behind) rest
 stays_behind own (adjustment inner ∷ rest) h = absurd (true≢false h)
 stays_behind own (insertion head inner ∷ rest) h = absurd (true≢false h)
+stays_behind own (box_leaders head repeated inner ∷ rest) h = stays_behind (own ++ box_leaders head repeated inner ∷ []) rest h ∙ regrouped own (box_leaders head repeated inner) rest
 
 pub all_stays : (list : List Item) → any_leaves_box list ≡ false → line_of list ≡ record { own = list; behind = [] }
 all_stays list h = stays_behind [] list h

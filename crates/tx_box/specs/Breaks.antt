@@ -12,12 +12,12 @@ use Rattle.tx_nest.specs.Grafs.{list_within}
 use Rattle.tx_nest.specs.Lasts.{last_of, shortened}
 use Rattle.tx_node.specs.declared.head.BreakHead.{BreakHead}
 use Rattle.tx_node.specs.declared.plain.KernKind.{KernKind}
-use Rattle.tx_node.specs.declared.plain.KernKind.TheVariants.{Implicit, Explicit, MathOn, MathOff}
+use Rattle.tx_node.specs.declared.plain.KernKind.TheVariants.{Accent, Implicit, Explicit, MathOn, MathOff}
 use Rattle.tx_node.specs.declared.plain.Plain.{Plain}
 use Rattle.tx_node.specs.declared.plain.Plain.TheVariants.{Kern, Glue, Penalty, Character}
 use Rattle.tx_node.specs.declared.plain.Shared.{Shared}
 use Rattle.tx_node.specs.declared.plain.Shared.TheVariants.{Rule, Leaders, Special, Ligature, Mark}
-use Rattle.tx_node.specs.Items.{Item, Items, plain, shared, boxed, discretionary, adjustment, insertion, items_of}
+use Rattle.tx_node.specs.Items.{Item, Items, plain, shared, boxed, discretionary, adjustment, insertion, box_leaders, items_of}
 use Rattle.tx_par.specs.LineLists.{empty_discretionary}
 use Rattle.tx_prim.specs.declared.family.BreakText.{BreakText}
 use Rattle.tx_prim.specs.declared.family.BreakText.TheVariants.{Before, Behind, Instead}
@@ -51,6 +51,7 @@ breaking text lists table =
 -- what may stand in a text: characters, ligatures, kerns, boxes and rules
 abbrev pub kern_may_stand : KernKind → Bool
 kern_may_stand Implicit = true
+kern_may_stand Accent = true
 kern_may_stand Explicit = true
 kern_may_stand MathOn = false
 kern_may_stand MathOff = false
@@ -75,6 +76,7 @@ is_of_text (boxed shift head inner) = true
 is_of_text (discretionary head before behind) = false
 is_of_text (adjustment inner) = false
 is_of_text (insertion head inner) = false
+is_of_text (box_leaders head repeated inner) = false
 
 abbrev pub are_of_text : List Item → Bool
 are_of_text [] = true
@@ -118,6 +120,7 @@ texted_by text items list (Some (shared s)) = None
 texted_by text items list (Some (boxed shift head inner)) = None
 texted_by text items list (Some (adjustment inner)) = None
 texted_by text items list (Some (insertion head inner)) = None
+texted_by text items list (Some (box_leaders head repeated inner)) = None
 
 abbrev pub texted : BreakText → List Item → ModeList → Option ModeList
 texted text items list = texted_by text items (with_nodes list (shortened list.nodes)) (last_of list.nodes)

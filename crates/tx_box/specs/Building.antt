@@ -38,7 +38,7 @@ use Rattle.tx_seen.specs.declared.error.TexError.{TexError}
 use Rattle.tx_seen.specs.declared.error.TexError.TheVariants.{ExtraGroupEnd, SizeOutOfRange, TooDeep, TooManyGroups}
 use Rattle.tx_seen.specs.declared.place.Place.TheVariants.{Dimension, Integer, ParShape}
 use Rattle.tx_shape.specs.declared.types.BoxContext.{BoxContext}
-use Rattle.tx_shape.specs.declared.types.BoxContext.TheVariants.{Adjust, Append, Center, Register, Ship}
+use Rattle.tx_shape.specs.declared.types.BoxContext.TheVariants.{Adjust, Append, Center, Lead, Register, Ship}
 use Rattle.tx_shape.specs.declared.types.BoxGoal.{BoxGoal}
 use Rattle.tx_shape.specs.declared.types.BoxGoal.TheVariants.{Natural, Spread, To}
 use Rattle.tx_box.specs.declared.parts.Lists.{Lists}
@@ -208,6 +208,7 @@ most_in (Register n) most = most
 most_in Ship most = most
 most_in Adjust most = pos 1073741823
 most_in Center most = pos 1073741823
+most_in (Lead kind) most = most
 
 -- of what stands in the box it is made
 abbrev pub boxing_line : OpenBox → ℤ → Lists → Eqtb → Line → Ended

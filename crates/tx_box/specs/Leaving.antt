@@ -3,7 +3,7 @@
 use Rattle.std.specs.Prelude.{Bool, true, false, ◌||◌, List, [], ◌∷◌}
 use Rattle.tx_node.specs.declared.plain.Shared.{Shared}
 use Rattle.tx_node.specs.declared.plain.Shared.TheVariants.{Rule, Leaders, Special, Ligature, Mark}
-use Rattle.tx_node.specs.Items.{Item, plain, shared, boxed, discretionary, adjustment, insertion}
+use Rattle.tx_node.specs.Items.{Item, plain, shared, boxed, discretionary, adjustment, insertion, box_leaders}
 
 abbrev pub larger_leaves : Shared → Bool
 larger_leaves (Rule r) = false
@@ -19,6 +19,7 @@ leaves_box (boxed shift head inner) = false
 leaves_box (discretionary head before behind) = false
 leaves_box (adjustment inner) = true
 leaves_box (insertion head inner) = true
+leaves_box (box_leaders head repeated inner) = false
 
 -- whether anything of a list does
 abbrev pub any_leaves_box : List Item → Bool

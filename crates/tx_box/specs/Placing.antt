@@ -20,11 +20,11 @@ use Rattle.tx_prim.specs.declared.glue.GlueParameter.TheVariants.{Baselineskip, 
 use Rattle.tx_seen.specs.declared.error.TexError.TheVariants.{SizeOutOfRange}
 use Rattle.tx_seen.specs.declared.place.Place.TheVariants.{Box, Dimension, Glue}
 use Rattle.tx_shape.specs.declared.types.BoxContext.{BoxContext}
-use Rattle.tx_shape.specs.declared.types.BoxContext.TheVariants.{Adjust, Append, Center, Register, Ship}
+use Rattle.tx_shape.specs.declared.types.BoxContext.TheVariants.{Adjust, Append, Center, Lead, Register, Ship}
 use Rattle.tx_box.specs.declared.parts.Lists.{Lists}
 use Rattle.tx_box.specs.declared.parts.Target.{Target}
 use Rattle.tx_box.specs.declared.parts.Work.TheVariants as work
-use Rattle.tx_box.specs.Effects.{Effect, leaves, leaves_due}
+use Rattle.tx_box.specs.Effects.{Effect, leaves, leaves_due, leaves_leading}
 use Rattle.tx_box.specs.Formulas.{with_box}
 
 -- another list in the place of the one that is being built
@@ -51,7 +51,7 @@ abbrev pub with_adjustment : Lists → List Item → Lists
 with_adjustment lists list = with_list lists (with_items lists.nest.innermost (adjustment (items_of list) ∷ []))
 
 -- a box, or none, goes where it is to go: a void one is no item and is not shipped, but makes a register void; that of \vcenter is the
--- nucleus of an atom (section 1168)
+-- nucleus of an atom (section 1168); leaders need a box that isn't void, else the glue behind them is no leaders (section 1075)
 abbrev pub placed_in : BoxContext → Bool → Lists → Eqtb → Option PackedBox → Effect
 placed_in (Append shift) global lists table None = leaves lists table
 placed_in (Append shift) global lists table (Some b) = appending_in lists.nest.innermost.state shift lists table b
@@ -62,6 +62,8 @@ placed_in Adjust global lists table None = leaves lists table
 placed_in Adjust global lists table (Some b) = leaves (with_adjustment lists b.list) table
 placed_in Center global lists table None = leaves lists table
 placed_in Center global lists table (Some b) = leaves (with_box Centered (pos 0) b lists) table
+placed_in (Lead kind) global lists table None = leaves lists table
+placed_in (Lead kind) global lists table (Some b) = leaves_leading lists table kind b
 
 abbrev pub placed : Target → Lists → Eqtb → Option PackedBox → Effect
 placed target lists table held = placed_in target.context target.global lists table held

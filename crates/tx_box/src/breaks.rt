@@ -25,7 +25,7 @@ fn kern_may_stand(kind: KernKind) -> bool
     ensures { result ≡ spec.kern_may_stand kind }
 {
     match kind {
-        KernKind::Implicit | KernKind::Explicit => true,
+        KernKind::Implicit | KernKind::Accent | KernKind::Explicit => true,
         KernKind::MathOn | KernKind::MathOff => false,
     }
 }
@@ -60,6 +60,7 @@ fn is_of_text(node: &Node) -> bool
         Node::Shared(item) => larger_may_stand(item),
         Node::Box(_, _) => true,
         Node::Discretionary(_) | Node::Adjustment(_) | Node::Insertion(_) => false,
+        Node::BoxLeaders(_) => false,
     }
 }
 
@@ -177,6 +178,7 @@ fn put_last(
         }
         Node::Plain(_) | Node::Shared(_) | Node::Box(_, _) => Ok(false),
         Node::Adjustment(_) | Node::Insertion(_) => Ok(false),
+        Node::BoxLeaders(_) => Ok(false),
     }
 }
 

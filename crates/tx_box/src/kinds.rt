@@ -66,6 +66,7 @@ pub(crate) fn most_in(context: BoxContext, most: i64) -> i64
 {
     match context {
         BoxContext::Append(_) | BoxContext::Register(_) | BoxContext::Ship => most,
+        BoxContext::Lead(_) => most,
         BoxContext::Adjust | BoxContext::Center => GREATEST_DIMENSION,
     }
 }

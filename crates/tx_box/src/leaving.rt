@@ -26,6 +26,7 @@ fn leaves_box(node: &Node) -> bool
         Node::Shared(item) => larger_leaves(item),
         Node::Adjustment(_) | Node::Insertion(_) => true,
         Node::Plain(_) | Node::Box(_, _) | Node::Discretionary(_) => false,
+        Node::BoxLeaders(_) => false,
     }
 }
 

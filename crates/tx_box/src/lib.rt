@@ -26,7 +26,7 @@ mod sources;
 
 pub use breaks::{begin_break, end_break};
 pub use building::{Ended, begin_box, end_box, greatest_depth, leave_list, reset_shape};
-pub use formula_lists::{begin_formula, end_formula};
+pub use formula_lists::{begin_display, begin_formula, end_formula};
 pub use formulas::{append_atom, append_noad, settle, with_nodes};
 pub use inserts::{
     InsertParams, begin_vertical, end_insert, end_vertical, insert_params, whole_size,

@@ -4,7 +4,7 @@ use tx_mlist::{Above, Mlist};
 use tx_nest::Nest;
 use tx_node::{BoxNode, Nodes};
 use tx_output::Pages;
-use tx_prim::BoxKind;
+use tx_prim::{BoxKind, LeadersKind};
 use tx_seen::TexError;
 use tx_shape::{BoxContext, BoxGoal};
 
@@ -73,6 +73,8 @@ pub enum Done {
     Whole,
     /// All but this, which is due.
     Due(Work),
+    /// All of it is done, and leaders of this kind repeat this box: their glue is to follow.
+    Leads(LeadersKind, BoxNode),
     /// It is wrong.
     Wrong(TexError),
 }

@@ -18,6 +18,7 @@ use tx_eqtb::{BoxContents, Entry, Eqtb};
 use tx_mlist::AtomKind;
 use tx_nest::{ModeState, NestError, append_box, append_item};
 use tx_node::{BoxNode, Node};
+use tx_prim::LeadersKind;
 use tx_seen::{Place, TexError};
 use tx_shape::BoxContext;
 
@@ -93,6 +94,16 @@ fn ship(found: Option<BoxNode>) -> Done
     }
 }
 
+/// A box, if there is one, is what leaders repeat.
+fn lead(kind: LeadersKind, found: Option<BoxNode>) -> Done
+    ensures { (global : Bool) (lists : Lists) (table : Eqtb) → spec.placed_in (context.Lead kind) global lists table found ≡ told result lists table }
+{
+    match found {
+        Some(repeated) => Done::Leads(kind, repeated),
+        None => Done::Whole,
+    }
+}
+
 /// The list of a box, if there is one, is one item of the list that is being built.
 fn adjust(alloc: Global, lists: &mut Lists, found: Option<BoxNode>) -> Result<Done, AllocError>
     ensures { (global : Bool) (table : Eqtb) → IfOk result (λ done. spec.placed_in context.Adjust global lists.old table found ≡ told done lists.new table) }
@@ -136,5 +147,6 @@ pub fn place(
         BoxContext::Ship => Ok(ship(found)),
         BoxContext::Adjust => adjust(alloc, lists, found),
         BoxContext::Center => center(alloc, lists, found),
+        BoxContext::Lead(kind) => Ok(lead(kind, found)),
     }
 }

@@ -13,7 +13,7 @@ use Rattle.tx_eqtb.specs.declared.eqtb.Eqtb.{Eqtb}
 use Rattle.tx_event.specs.declared.types.Event.{Event}
 use Rattle.tx_prim.specs.declared.family.BoxKind.{BoxKind}
 use Rattle.tx_shape.specs.declared.types.BoxContext.{BoxContext}
-use Rattle.tx_shape.specs.declared.types.BoxContext.TheVariants.{Adjust, Append, Center, Register, Ship}
+use Rattle.tx_shape.specs.declared.types.BoxContext.TheVariants.{Adjust, Append, Center, Lead, Register, Ship}
 use Rattle.tx_state.specs.declared.state.State.{State}
 use Rattle.tx_state.specs.Ended.{with_after}
 use Rattle.tx_state.specs.Meanings.{IsStepped, state_of}
@@ -34,6 +34,7 @@ settled-lists (Register n) s = after-lists _ s.after_assignment
 settled-lists Ship s = refl
 settled-lists Adjust s = refl
 settled-lists Center s = refl
+settled-lists (Lead kind) s = refl
 
 settled-table : (context : BoxContext) (s : TexState) → (settled context s).table ≡ s.table
 settled-table (Append shift) s = refl
@@ -41,6 +42,7 @@ settled-table (Register n) s = after-table _ s.after_assignment
 settled-table Ship s = refl
 settled-table Adjust s = refl
 settled-table Center s = refl
+settled-table (Lead kind) s = refl
 
 -- what is read first in a box changes neither the lists nor the table
 pub every-lists : (context : BoxContext) (box : BoxKind) (s : TexState) → (with_every_in context box s).lists ≡ s.lists
@@ -49,6 +51,7 @@ every-lists (Register n) box s = refl
 every-lists Ship box s = refl
 every-lists Adjust box s = refl
 every-lists Center box s = refl
+every-lists (Lead kind) box s = refl
 
 pub every-table : (context : BoxContext) (box : BoxKind) (s : TexState) → (with_every_in context box s).table ≡ s.table
 every-table (Append shift) box s = refl
@@ -56,6 +59,7 @@ every-table (Register n) box s = refl
 every-table Ship box s = refl
 every-table Adjust box s = refl
 every-table Center box s = refl
+every-table (Lead kind) box s = refl
 
 -- a box that is to go somewhere: `of` is what comes of it by where it goes, the lists and the table
 pub settles : {E : Type 0} (of : Target → Lists → Eqtb → Effect) (context : BoxContext) (base : TexState) (before between new : State) (target : Target) (lists : Lists) (table : Eqtb) (done : Done) (answer : Result Event E) → base.lists ≡ before.lists → base.table ≡ before.table → target ≡ target_of (state_of before) context → state_of between ≡ settled context base → between.said ≡ before.said → of target between.lists between.table ≡ told done lists table → IfOk answer (λ event. IsStepped (carried (state_of (with_parts between lists table)) (told done lists table)) (with_parts between lists table) event new) → IfOk answer (λ event. IsStepped (carried (settled context base) (of (target_of (state_of before) context) before.lists before.table)) before event new)

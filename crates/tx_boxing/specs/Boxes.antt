@@ -25,7 +25,7 @@ use Rattle.tx_prim.specs.declared.integer.IntegerParameter.TheVariants.{Globalde
 use Rattle.tx_seen.specs.declared.error.TexError.TheVariants.{MissingBox}
 use Rattle.tx_seen.specs.declared.place.Place.TheVariants.{Box, Tokens}
 use Rattle.tx_shape.specs.declared.types.BoxContext.{BoxContext}
-use Rattle.tx_shape.specs.declared.types.BoxContext.TheVariants.{Adjust, Append, Center, Register, Ship}
+use Rattle.tx_shape.specs.declared.types.BoxContext.TheVariants.{Adjust, Append, Center, Lead, Register, Ship}
 use Rattle.tx_shape.specs.declared.types.BoxGoal.{BoxGoal}
 use Rattle.tx_state.specs.Ended.{assigned, integer, with_top_list}
 use Rattle.tx_state.specs.Outcomes.{Outcome, fails, leaves}
@@ -67,6 +67,7 @@ settled (Register n) s = assigned s
 settled Ship s = s
 settled Adjust s = s
 settled Center s = s
+settled (Lead kind) s = s
 
 -- what \everyhbox or \everyvbox has is read in a box, behind what \afterassignment keeps for \setbox (section 1083)
 abbrev pub with_every : BoxKind → TexState → TexState
@@ -79,6 +80,7 @@ with_every_in (Register n) box s = with_every box s
 with_every_in Ship box s = with_every box s
 with_every_in Adjust box s = s
 with_every_in Center box s = with_every box s
+with_every_in (Lead kind) box s = with_every box s
 
 -- a box that was made before goes where it is to go
 abbrev pub moving_box : TexState → ℕ → BoxContext → Outcome

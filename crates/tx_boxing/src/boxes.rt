@@ -87,7 +87,7 @@ pub(crate) fn settle(s: &mut State, context: BoxContext) -> Result<Target, Alloc
             Ok(target)
         }
         BoxContext::Append(_) | BoxContext::Ship => Ok(target),
-        BoxContext::Adjust | BoxContext::Center => Ok(target),
+        BoxContext::Adjust | BoxContext::Center | BoxContext::Lead(_) => Ok(target),
     }
 }
 
@@ -125,7 +125,9 @@ fn read_every_in(
 {
     match context {
         BoxContext::Append(_) | BoxContext::Register(_) => read_every(input, table, kind),
-        BoxContext::Ship | BoxContext::Center => read_every(input, table, kind),
+        BoxContext::Ship | BoxContext::Center | BoxContext::Lead(_) => {
+            read_every(input, table, kind)
+        }
         BoxContext::Adjust => Ok(()),
     }
 }

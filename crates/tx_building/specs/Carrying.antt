@@ -3,9 +3,12 @@ use Rattle.std.specs.Prelude.{ℕ, List, [], ◌∷◌, Option, Some, None, Ok, 
 use Rattle.tx_box.specs.declared.parts.Work.{Work}
 use Rattle.tx_box.specs.Building.{Ended}
 use Rattle.tx_box.specs.Effects.{Effect, Left}
+use Rattle.tx_command.specs.declared.types.Head.TheVariants.{LeadingBox}
 use Rattle.tx_nest.specs.States.{mode_of}
+use Rattle.tx_node.specs.Items.{PackedBox}
 use Rattle.tx_parts.specs.declared.parts.Due.{Due}
 use Rattle.tx_parts.specs.declared.parts.Due.TheVariants.{Boxes}
+use Rattle.tx_prim.specs.declared.family.LeadersKind.{LeadersKind}
 use Rattle.tx_state.specs.State.{TexState}
 use Rattle.tx_state.specs.Outcomes.{Outcome, Leaves, Fails}
 
@@ -24,10 +27,15 @@ carrying s left = record s {
   table = left.table;
 }
 
+-- glue is to follow the leaders whose box was made (section 1078)
+abbrev pub led : Option (LeadersKind × PackedBox) → TexState → TexState
+led None s = s
+led (Some (kind, b)) s = record s { head = LeadingBox kind b }
+
 -- that, or an error, behind what the transcript gets
 abbrev pub carried_telling : TexState → List ℕ → Effect → Outcome
 carried_telling s report (Err error) = Fails error report
-carried_telling s report (Ok left) = Leaves (carrying s left) report
+carried_telling s report (Ok left) = Leaves (led left.leads (carrying s left)) report
 
 abbrev pub carried : TexState → Effect → Outcome
 carried s effect = carried_telling s [] effect

@@ -14,6 +14,7 @@ use tx_command::{CommandScan, Head};
 use tx_event::Event;
 use tx_galley::{GalleyError, Next, exercise};
 use tx_list::Stack;
+use tx_nest::Nest;
 use tx_pending::Pending;
 use tx_prim::Mode;
 use tx_seen::TexError;
@@ -105,6 +106,41 @@ pub fn build_behind(alloc: Global, s: &mut State, event: Event) -> Result<Event,
     }
 }
 
+/// Whether the pages' list is around the one that is being built.
+fn is_within_pages(nest: &Nest) -> bool
+    ensures { result ≡ spec.is_within_pages nest.now.around }
+{
+    match nest.mode_around() {
+        Some(mode) => is_pages(mode),
+        None => false,
+    }
+}
+
+/// The page builder is exercised where the pages' list is around the one that is being built. Err is want of memory; the event may end
+/// the run by an error, as `then_building_outside` says.
+fn build_outside(alloc: Global, s: &mut State) -> Result<Event, AllocError>
+    requires { s.old.phase ≡ Phase.Running }
+    ensures { IfOk result (λ event. IsStepped (spec.then_building_outside (state_of s.old) []) s.old event s.new) }
+{
+    if is_within_pages(&s.lists.nest) {
+        build(alloc, s)
+    } else {
+        Ok(Event::Went)
+    }
+}
+
+/// The same behind a display's begin, or before the paragraph goes on behind one, with this event. Err is want of memory; the event may
+/// end the run by an error, as `built_outside` says.
+pub fn build_outside_behind(alloc: Global, s: &mut State, event: Event) -> Result<Event, AllocError>
+    requires runs { event ≡ Event.Went → s.old.phase ≡ Phase.Running }
+    ensures { (before : State) (outcome : Outcome) → IsStepped outcome before event s.old → IfOk result (λ further. IsStepped (spec.built_outside outcome) before further s.new) }
+{
+    match event {
+        Event::Went => build_outside(alloc, s),
+        event => Ok(event),
+    }
+}
+
 /// The same behind a box of which this became, if it was appended. Err is want of memory; the event may end the run by an error, as
 /// `built_in` says.
 pub fn build_in(
@@ -119,6 +155,6 @@ pub fn build_in(
     match context {
         BoxContext::Append(_) => build_behind(alloc, s, event),
         BoxContext::Register(_) | BoxContext::Ship => Ok(event),
-        BoxContext::Adjust | BoxContext::Center => Ok(event),
+        BoxContext::Adjust | BoxContext::Center | BoxContext::Lead(_) => Ok(event),
     }
 }

@@ -9,7 +9,7 @@ ghost use Rattle.tx_building.specs.Carrying as spec;
 use std::alloc::AllocError;
 use tx_box::{Done, Lists};
 use tx_bytes::Bytes;
-use tx_command::CommandScan;
+use tx_command::{CommandScan, Head};
 use tx_event::Event;
 use tx_state::{State, fail, push_work};
 
@@ -41,6 +41,12 @@ pub fn carry(s: &mut State, done: Done, report: &[u8]) -> Result<Event, AllocErr
         }
         Done::Due(work) => {
             push_work(&mut s.due, work)?;
+            stand(&mut s.scan, &s.lists, &mut s.said, report)?;
+            Ok(Event::Went)
+        }
+        // (glue is to follow, in the mode of the list that is being built now)
+        Done::Leads(kind, repeated) => {
+            s.scan.begin_behind(Head::LeadingBox(kind, repeated));
             stand(&mut s.scan, &s.lists, &mut s.said, report)?;
             Ok(Event::Went)
         }

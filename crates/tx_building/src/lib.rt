@@ -10,5 +10,8 @@
 mod building;
 mod carrying;
 
-pub use building::{build, build_behind, build_here, build_in, is_pages, page_error, take_page};
+pub use building::{
+    build, build_behind, build_here, build_in, build_outside_behind, is_pages, page_error,
+    take_page,
+};
 pub use carrying::carry;

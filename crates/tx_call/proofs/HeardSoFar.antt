@@ -206,13 +206,13 @@ module _ {S : Type 0} (m : Formatter S) where
 
   -- what ended the answers
   serves-until : (e : Break) (standing standing' : Standing) (here t' : Sitting) (left left_here left' : Option (List ℕ)) (before between after : Option Output) (steps steps_here steps' : ℕ)
-      → Heard m (begun_at standing) here left left_here before between steps steps_here → Hears m (Err e) left_here left' here t' between after steps_here steps' → Serves m standing left (Err e) standing' before after steps steps'
-  serves-until breaks.Inlet standing standing' here t' left left_here left' before between after steps steps_here steps' so_far hears = (here, left_here, heard-before so_far hears)
+      → Heard m (begun_at standing) here left left_here before between steps steps_here → Hears m (Err e) left_here left' here t' between after steps_here steps' → Serves m standing left left' (Err e) standing' before after steps steps'
+  serves-until breaks.Inlet standing standing' here t' left left_here left' before between after steps steps_here steps' so_far hears = (here, left_here, heard-before so_far hears.1, hears.0)
   serves-until (breaks.Trouble trouble) standing standing' here t' left left_here left' before between after steps steps_here steps' so_far hears = trouble-heard so_far trouble left' t' after steps' hears
 
   pub serves-short : (result : Result Tally Break) (e : Break) (standing standing' : Standing) (here t' : Sitting) (left left_here left' : Option (List ℕ)) (before between after : Option Output) (steps steps_here steps' : ℕ)
       → IsErrAnd result (λ x. x ≡ e) → Heard m (begun_at standing) here left left_here before between steps steps_here → Hears m (Err e) left_here left' here t' between after steps_here steps'
-      → Serves m standing left result standing' before after steps steps'
+      → Serves m standing left left' result standing' before after steps steps'
   serves-short result e standing standing' here t' left left_here left' before between after steps steps_here steps' err so_far hears =
-      on-err result e (λ r. Serves m standing left r standing' before after steps steps') err
+      on-err result e (λ r. Serves m standing left left' r standing' before after steps steps') err
       (serves-until e standing standing' here t' left left_here left' before between after steps steps_here steps' so_far hears)

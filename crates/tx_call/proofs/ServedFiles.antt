@@ -1,6 +1,6 @@
 -- The line of a run, and then the answers to what came in.
-use Rattle.std.proofs.Common.{◌≡◌, ◌≢◌, ℕ, zero, suc, ◌+◌, ◌≤◌, ◌<◌, ◌⊎◌, inl, inr, List, [], ◌∷◌, Option, Some, None, Result, Ok, Err, refl, sym, ap, subst, ◌∙◌, arith, append-nil}
-use Rattle.std.specs.Prelude.{unwrap_or, IfOk, IsErrAnd, IsErrOf}
+use Rattle.std.proofs.Common.{◌≡◌, ℕ, ◌+◌, ◌≤◌, ◌⊎◌, inl, List, [], ◌∷◌, Option, Some, None, Result, Ok, Err, refl, sym, ap, subst, ◌∙◌, arith}
+use Rattle.std.specs.Prelude.{unwrap_or, IfOk, IfSome, IsErrAnd, IsErrOf, IsSomeAnd}
 use Rattle.tx_bytes.specs.Files.{Files}
 use Rattle.tx_io.specs.Output.{Output, told}
 use Rattle.tx_io.specs.Cut.{IsCutShort}
@@ -8,7 +8,9 @@ use Rattle.tx_io.proofs.Told.{told-append}
 use Rattle.tx_io.proofs.CutShort.{cut-nothing, cut-behind}
 use Rattle.tx_machine.specs.Machine.{Formatter}
 use Rattle.tx_machine.specs.Steps.{raised}
+use Rattle.tx_request.specs.declared.request.Next.TheVariants.{Failed}
 use Rattle.tx_request.specs.Requests as requests
+use Rattle.tx_request.specs.Requests.{IsBrokenOff, IsNext}
 use Rattle.tx_session.specs.Held.{Held, fresh}
 use Rattle.tx_session.specs.Standing.{Standing, now, settled}
 use Rattle.tx_call.specs.declared.tally.Tally.{Tally}
@@ -22,7 +24,7 @@ use Rattle.tx_words.specs.declared.given.Asked.{Asked}
 use Rattle.tx_words.specs.declared.given.Asked.TheVariants.{Serve}
 use Rattle.tx_words.specs.declared.given.Serving.{Serving}
 use Rattle.tx_call.specs.Outcome.{first_piece, ForHeld}
-use Rattle.tx_call.specs.Serving.{AreHeard, AsksForNone, ForServing, IsServed, IsServedInPart, IsServedToTheEnd, ServeLeaves, served_pieces, status_of}
+use Rattle.tx_call.specs.Serving.{AreHeard, AsksForNone, ForServing, IsServedInPart, IsServedToTheEnd, IsServedToTheFault, served_pieces, status_of}
 use Rattle.tx_call.specs.Sitting.{Sitting}
 use Rattle.tx_call.specs.Tally.{sitting}
 use Rattle.tx_call.specs.Trouble.{SourceCauses}
@@ -40,9 +42,11 @@ none-more steps steps' turns most = omega (arith, most)
 no-turn : (steps steps' turns : ℕ) → steps' ≡ steps → steps' ≤ raised steps turns
 no-turn steps steps' turns still = omega (arith, still)
 
-not-three : (status : ℕ) → (status < 2) ⊎ (status ≡ 5) → status ≡ 3 → ⊥
-not-three status (inl small) three = omega (arith, small, three)
-not-three status (inr five) three = omega (arith, five, three)
+-- what is left behind these events is broken off
+broken-behind : (left between left' : Option (List ℕ)) (events : List Event) → AreReadUpTo left events between → IsNext Failed between left' → IfSome left (λ bytes. IsSomeAnd left' (IsBrokenOff (unwrap_or between [])))
+broken-behind None between left' events read broken = tt
+broken-behind (Some bytes) None left' events read broken = absurd read
+broken-behind (Some bytes) (Some rest) left' events read broken = broken
 
 module _ {S : Type 0} (m : Formatter S) where
   heard : (t : Sitting) (left left' : Option (List ℕ)) (events : List Event) → AreReadUpTo left events left' → AllMayCome m t events → AreHeard m t left events (unwrap_or left' [])
@@ -64,16 +68,20 @@ module _ {S : Type 0} (m : Formatter S) (held : Held) where
   most-served : (turns steps steps_run steps' : ℕ) → steps_run ≡ raised steps (fresh m held).turns → steps' ≤ raised steps_run turns → steps' ≤ raised steps ((fresh m held).turns + turns)
   most-served turns steps steps_run steps' run most = raised-both steps steps_run steps' (fresh m held).turns turns (is-most steps steps_run (fresh m held).turns run) most
 
-  served : {t' : Sitting} {left left' : Option (List ℕ)} {before said after : Option Output} {steps steps_run steps' : ℕ}
+  -- up to where the inlet failed
+  served-to-the-fault : {t' : Sitting} {left between left' : Option (List ℕ)} {before said after : Option Output} {steps steps_run steps' : ℕ}
       → said ≡ told before (first_piece (fresh m held).ran ∷ []) → steps_run ≡ raised steps (fresh m held).turns
-      → Heard m (begun held) t' left left' said after steps_run steps' → IsServed m held left before after steps steps'
-  served {left = left} {left' = left'} {before = before} {said = said} {after = after} {steps = steps} {steps_run = steps_run} {steps' = steps'} line run so_far = record {
-    events = so_far.events;
-    rest = unwrap_or left' [];
-    heard = heard m (begun held) left left' so_far.events so_far.read so_far.may_come;
-    output_is = output-served so_far.events before said after line so_far.comes.output_is;
-    most = most-served (all_came m (begun held) so_far.events).turns steps steps_run steps' run so_far.comes.most;
-    steps_are = λ exact. raised-twice steps steps_run steps' (fresh m held).turns (all_came m (begun held) so_far.events).turns run (so_far.comes.steps_are exact);
+      → Heard m (begun held) t' left between said after steps_run steps' → IsNext Failed between left' → IsServedToTheFault m held left left' before after steps steps'
+  served-to-the-fault {left = left} {between = between} {left' = left'} {before = before} {said = said} {after = after} {steps = steps} {steps_run = steps_run} {steps' = steps'} line run so_far broken = record {
+    so_far = record {
+      events = so_far.events;
+      rest = unwrap_or between [];
+      heard = heard m (begun held) left between so_far.events so_far.read so_far.may_come;
+      output_is = output-served so_far.events before said after line so_far.comes.output_is;
+      most = most-served (all_came m (begun held) so_far.events).turns steps steps_run steps' run so_far.comes.most;
+      steps_are = λ exact. raised-twice steps steps_run steps' (fresh m held).turns (all_came m (begun held) so_far.events).turns run (so_far.comes.steps_are exact);
+    };
+    broken = broken-behind left between left' so_far.events so_far.read broken;
   }
 
   served-to-the-end : {t' : Sitting} {left : Option (List ℕ)} {before said after : Option Output} {steps steps_run steps' : ℕ} (status : ℕ)
@@ -121,20 +129,10 @@ module _ {S : Type 0} (m : Formatter S) (held : Held) where
   served-nothing {before = before} {steps = steps} {steps' = steps'} same still =
       served-none (subst (λ (o : Option Output). IsCutShort before (first_piece (fresh m held).ran ∷ []) o) (sym same) (cut-nothing before (first_piece (fresh m held).ran ∷ []))) (no-turn steps steps' (fresh m held).turns still)
 
-  -- what was put out whole is so in part
-  all-in-part : {left : Option (List ℕ)} {before after : Option Output} {steps steps' : ℕ} → IsServed m held left before after steps steps' → IsServedInPart m held left before after steps steps'
-  all-in-part so_far = record {
-    events = so_far.events;
-    rest = so_far.rest;
-    heard = so_far.heard;
-    cut = record { whole = served_pieces m held so_far.events; left = []; are = sym (append-nil (served_pieces m held so_far.events)); next = so_far.output_is };
-    most = so_far.most;
-  }
-
   -- trouble ended a call
-  pub serves-short : (result : Result ℕ Break) (trouble : Trouble) (left : Option (List ℕ)) (before after : Option Output) (steps steps' : ℕ)
-      → IsErrAnd result (λ e. e ≡ breaks.Trouble trouble) → IsServedInPart m held left before after steps steps' → ServesFiles m held left result before after steps steps'
-  serves-short result trouble left before after steps steps' err part = on-err result (breaks.Trouble trouble) (λ r. ServesFiles m held left r before after steps steps') err part
+  pub serves-short : (result : Result ℕ Break) (trouble : Trouble) (left left' : Option (List ℕ)) (before after : Option Output) (steps steps' : ℕ)
+      → IsErrAnd result (λ e. e ≡ breaks.Trouble trouble) → IsServedInPart m held left before after steps steps' → ServesFiles m held left left' result before after steps steps'
+  serves-short result trouble left left' before after steps steps' err part = on-err result (breaks.Trouble trouble) (λ r. ServesFiles m held left left' r before after steps steps') err part
 
   -- a document that was opened, of which nothing was made yet
   module _ (standing : Standing) (is : standing ≡ settled held) where
@@ -160,61 +158,20 @@ module _ {S : Type 0} (m : Formatter S) (held : Held) where
         (subst (λ (s : Standing). Heard m (begun_at s) (sitting standing' tally) left (Some []) said after steps_run steps') is so_far) end
 
     -- or what came before a fault or trouble was
-    serves-until : (e : Break) (standing' : Standing) (left : Option (List ℕ)) (before said after : Option Output) (steps steps_run steps' : ℕ)
+    serves-until : (e : Break) (standing' : Standing) (left left' : Option (List ℕ)) (before said after : Option Output) (steps steps_run steps' : ℕ)
         → said ≡ told before (first_piece (fresh m (now standing)).ran ∷ []) → steps_run ≡ raised steps (fresh m (now standing)).turns
-        → Serves m standing left (Err e) standing' said after steps_run steps' → ServesFiles m held left (Err e) before after steps steps'
-    serves-until breaks.Inlet standing' left before said after steps steps_run steps' line run so_far =
-        served (line-of before said line) (turns-of steps steps_run run)
-        (subst (λ (s : Standing). Heard m (begun_at s) so_far.0 left so_far.1 said after steps_run steps') is so_far.2)
-    serves-until (breaks.Trouble trouble) standing' left before said after steps steps_run steps' line run so_far =
+        → Serves m standing left left' (Err e) standing' said after steps_run steps' → ServesFiles m held left left' (Err e) before after steps steps'
+    serves-until breaks.Inlet standing' left left' before said after steps steps_run steps' line run so_far =
+        served-to-the-fault (line-of before said line) (turns-of steps steps_run run)
+        (subst (λ (s : Standing). Heard m (begun_at s) so_far.0 left so_far.1 said after steps_run steps') is so_far.2) so_far.3
+    serves-until (breaks.Trouble trouble) standing' left left' before said after steps steps_run steps' line run so_far =
         served-in-part (line-of before said line) (turns-of steps steps_run run) (subst (λ (s : Standing). HeardInPart m (begun_at s) left said after steps_run steps') is so_far)
 
-    pub serves-broken : (result : Result ℕ Break) (e : Break) (standing' : Standing) (left : Option (List ℕ)) (before said after : Option Output) (steps steps_run steps' : ℕ)
+    pub serves-broken : (result : Result ℕ Break) (e : Break) (standing' : Standing) (left left' : Option (List ℕ)) (before said after : Option Output) (steps steps_run steps' : ℕ)
         → IsErrAnd result (λ x. x ≡ e) → said ≡ told before (first_piece (fresh m (now standing)).ran ∷ []) → steps_run ≡ raised steps (fresh m (now standing)).turns
-        → Serves m standing left (Err e) standing' said after steps_run steps' → ServesFiles m held left result before after steps steps'
-    serves-broken result e standing' left before said after steps steps_run steps' err line run so_far =
-        on-err result e (λ r. ServesFiles m held left r before after steps steps') err (serves-until e standing' left before said after steps steps_run steps' line run so_far)
-
-  -- what a call leaves, by how it ended
-  pub leaves-all : {left : Option (List ℕ)} {before after : Option Output} {steps steps' : ℕ} (status : ℕ) → (status < 2) ⊎ (status ≡ 5) → IsServedToTheEnd m held left status before after steps steps'
-      → ServeLeaves m held left status before after steps steps'
-  leaves-all status early all = record {
-    whole = λ _. all;
-    at_fault = λ three. inr all.so_far;
-    part = all-in-part all.so_far;
-  }
-
-  leaves-at-fault : {left : Option (List ℕ)} {before after : Option Output} {steps steps' : ℕ} → IsServed m held left before after steps steps' → ServeLeaves m held left 3 before after steps steps'
-  leaves-at-fault so_far = record {
-    whole = λ early. absurd (not-three 3 early refl);
-    at_fault = λ _. inr so_far;
-    part = all-in-part so_far;
-  }
-
-  pub leaves-at-source : {left : Option (List ℕ)} {before after : Option Output} {steps steps' : ℕ} → after ≡ before → steps' ≡ steps → ServeLeaves m held left 3 before after steps steps'
-  leaves-at-source same still = record {
-    whole = λ early. absurd (not-three 3 early refl);
-    at_fault = λ _. inl (same, still);
-    part = served-nothing same still;
-  }
-
-  leaves-in-part : {left : Option (List ℕ)} {before after : Option Output} {steps steps' : ℕ} (status : ℕ) → ((status < 2) ⊎ (status ≡ 5) → ⊥) → status ≢ 3 → IsServedInPart m held left before after steps steps'
-      → ServeLeaves m held left status before after steps steps'
-  leaves-in-part status late no_fault part = record {
-    whole = λ early. absurd (late early);
-    at_fault = λ fault. absurd (no_fault fault);
-    part = part;
-  }
-
-  pub leaves-by-inlet : {left : Option (List ℕ)} {before after : Option Output} {steps steps' : ℕ} (e : Break) → e ≡ breaks.Inlet → ServesFiles m held left (Err e) before after steps steps'
-      → ServeLeaves m held left 3 before after steps steps'
-  leaves-by-inlet {left = left} {before = before} {after = after} {steps = steps} {steps' = steps'} e is serves =
-      leaves-at-fault (subst (λ (x : Break). ServesFiles m held left (Err x) before after steps steps') is serves)
-
-  pub leaves-by-trouble : {left : Option (List ℕ)} {before after : Option Output} {steps steps' : ℕ} (e : Break) (trouble : Trouble) (status : ℕ) → e ≡ breaks.Trouble trouble
-      → ((status < 2) ⊎ (status ≡ 5) → ⊥) → status ≢ 3 → ServesFiles m held left (Err e) before after steps steps' → ServeLeaves m held left status before after steps steps'
-  leaves-by-trouble {left = left} {before = before} {after = after} {steps = steps} {steps' = steps'} e trouble status is late no_fault serves =
-      leaves-in-part status late no_fault (subst (λ (x : Break). ServesFiles m held left (Err x) before after steps steps') is serves)
+        → Serves m standing left left' (Err e) standing' said after steps_run steps' → ServesFiles m held left left' result before after steps steps'
+    serves-broken result e standing' left left' before said after steps steps_run steps' err line run so_far =
+        on-err result e (λ r. ServesFiles m held left left' r before after steps steps') err (serves-until e standing' left left' before said after steps steps_run steps' line run so_far)
 
 -- what is so of the files that a source holds is so of the words that ask to serve them
 pub served-words : (asked : Asked) (holds : Option Files) {IsSo IsThen : Serving → Files → Type 0} → ForServing asked (λ serving. ForHeld holds (IsSo serving))
@@ -235,17 +192,6 @@ serves-this asked serving this IsSo so = λ other is.
 -- words that were read as something else ask for none
 pub asks-for-none : (asked meant : Asked) → asked ≡ meant → ((serving : Serving) → asked ≡ Serve serving → ⊥) → AsksForNone meant
 asks-for-none asked meant is never = λ asks. never asks.0 (is ∙ asks.1)
-
-under : (n : ℕ) → n ≤ 2 → (n ≡ 2 → ⊥) → n < 2
-under zero small not_two = omega arith
-under (suc zero) small not_two = omega arith
-under (suc (suc zero)) small not_two = absurd (not_two refl)
-under (suc (suc (suc n))) small not_two = absurd (omega (arith, small))
-
--- where all was answered, the status of words that ask to serve isn't that of a refusal
-pub early : (asked : Asked) (serving : Serving) → asked ≡ Serve serving → (status : ℕ) → (status ≤ 2) ⊎ (status ≡ 5) → (status ≡ 2 → AsksForNone asked) → (status < 2) ⊎ (status ≡ 5)
-early asked serving is status (inl small) refused = inl (under status small (λ two. refused two (serving, is)))
-early asked serving is status (inr five) refused = inr five
 
 -- what was said of words that are refused
 pub refuses-short : (result : Result ℕ Break) (trouble : Trouble) (before after : Option Output) → IsErrAnd result (λ e. e ≡ breaks.Trouble trouble) → Refuses (Err (breaks.Trouble trouble)) before after → Refuses result before after

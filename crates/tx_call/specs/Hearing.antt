@@ -6,7 +6,7 @@ use Rattle.tx_io.specs.Output.{Output, Say, told}
 use Rattle.tx_io.specs.Cut.{IsCutShort}
 use Rattle.tx_machine.specs.Machine.{Formatter}
 use Rattle.tx_request.specs.declared.request.Request.{Request}
-use Rattle.tx_request.specs.declared.request.Next.TheVariants.{Asks}
+use Rattle.tx_request.specs.declared.request.Next.TheVariants.{Asks, Failed}
 use Rattle.tx_request.specs.Requests.{AreRead, IsNext}
 use Rattle.tx_session.specs.Held.{Held}
 use Rattle.tx_session.specs.Standing.{Standing}
@@ -16,7 +16,7 @@ use Rattle.tx_call.specs.declared.trouble.Break.{Break}
 use Rattle.tx_call.specs.declared.trouble.Break.TheVariants as breaks
 use Rattle.tx_call.specs.Answers.{Event, read_as, came, all_came, begun_at, MayCome, AllMayCome, IsExact, AreExact}
 use Rattle.tx_call.specs.Lines.{refusal_line}
-use Rattle.tx_call.specs.Serving.{IsServed, IsServedInPart, IsServedToTheEnd}
+use Rattle.tx_call.specs.Serving.{IsServedInPart, IsServedToTheEnd, IsServedToTheFault}
 use Rattle.tx_call.specs.Sitting.{Sitting, ComesWithin, ComesInPart}
 use Rattle.tx_call.specs.Tally.{sitting}
 use Rattle.tx_call.specs.Trouble.{Causes, SinkCauses}
@@ -55,7 +55,7 @@ pub record HearsNone (left : Option (List ℕ)) (t t' : Sitting) (before after :
 abbrev pub Hears : {S : Type 0} → Formatter S → Result Bool Break → Option (List ℕ) → Option (List ℕ) → Sitting → Sitting → Option Output → Option Output → ℕ → ℕ → Type 0
 Hears m (Ok true) left left' t t' before after steps steps' = HearsOne {T = Bool} m (Ok true) left left' t t' before after steps steps'
 Hears m (Ok false) left left' t t' before after steps steps' = HearsNone left t t' before after steps steps'
-Hears m (Err breaks.Inlet) left left' t t' before after steps steps' = IsSilent before after steps steps'
+Hears m (Err breaks.Inlet) left left' t t' before after steps steps' = IsNext Failed left left' × IsSilent before after steps steps'
 Hears m (Err (breaks.Trouble trouble)) left left' t t' before after steps steps' =
     IsSilent before after steps steps' ⊎ HearsOne {T = Bool} m (Err trouble) left left' t t' before after steps steps'
 
@@ -79,16 +79,17 @@ pub record HeardInPart {S : Type 0} (m : Formatter S) (t : Sitting) (left : Opti
   pub comes : ComesInPart (all_came m t events) before after steps steps'
 
 -- all that came in was answered; or what came before the fault was, or what came before trouble
-abbrev pub Serves : {S : Type 0} → Formatter S → Standing → Option (List ℕ) → Result Tally Break → Standing → Option Output → Option Output → ℕ → ℕ → Type 0
-Serves m standing left (Ok tally) standing' before after steps steps' = Heard m (begun_at standing) (sitting standing' tally) left (Some []) before after steps steps'
-Serves m standing left (Err breaks.Inlet) standing' before after steps steps' = (t' : Sitting) × (left' : Option (List ℕ)) × Heard m (begun_at standing) t' left left' before after steps steps'
-Serves m standing left (Err (breaks.Trouble trouble)) standing' before after steps steps' = HeardInPart m (begun_at standing) left before after steps steps'
+abbrev pub Serves : {S : Type 0} → Formatter S → Standing → Option (List ℕ) → Option (List ℕ) → Result Tally Break → Standing → Option Output → Option Output → ℕ → ℕ → Type 0
+Serves m standing left left' (Ok tally) standing' before after steps steps' = Heard m (begun_at standing) (sitting standing' tally) left (Some []) before after steps steps'
+Serves m standing left left' (Err breaks.Inlet) standing' before after steps steps' =
+    (t' : Sitting) × (between : Option (List ℕ)) × Heard m (begun_at standing) t' left between before after steps steps' × IsNext Failed between left'
+Serves m standing left left' (Err (breaks.Trouble trouble)) standing' before after steps steps' = HeardInPart m (begun_at standing) left before after steps steps'
 
 -- the same behind the line of a run
-abbrev pub ServesFiles : {S : Type 0} → Formatter S → Held → Option (List ℕ) → Result ℕ Break → Option Output → Option Output → ℕ → ℕ → Type 0
-ServesFiles m held left (Ok status) before after steps steps' = IsServedToTheEnd m held left status before after steps steps'
-ServesFiles m held left (Err breaks.Inlet) before after steps steps' = IsServed m held left before after steps steps'
-ServesFiles m held left (Err (breaks.Trouble trouble)) before after steps steps' = IsServedInPart m held left before after steps steps'
+abbrev pub ServesFiles : {S : Type 0} → Formatter S → Held → Option (List ℕ) → Option (List ℕ) → Result ℕ Break → Option Output → Option Output → ℕ → ℕ → Type 0
+ServesFiles m held left left' (Ok status) before after steps steps' = IsServedToTheEnd m held left status before after steps steps'
+ServesFiles m held left left' (Err breaks.Inlet) before after steps steps' = IsServedToTheFault m held left left' before after steps steps'
+ServesFiles m held left left' (Err (breaks.Trouble trouble)) before after steps steps' = IsServedInPart m held left before after steps steps'
 
 -- the words that ask for something else are refused
 abbrev pub Refuses : Result ℕ Break → Option Output → Option Output → Type 0

@@ -1,12 +1,14 @@
 -- What a call that serves a document leaves.
 use Rattle.std.specs.Prelude.{◌≡◌, ℕ, ◌+◌, ◌≤◌, ◌<◌, ◌⊎◌, List, [], ◌∷◌, map, Option, IfSome}
+use Rattle.std.specs.Option.{IsSomeAnd}
 use Rattle.std.specs.FinMap.{empty}
 use Rattle.tx_bytes.specs.Files.{Files}
+use Rattle.tx_io.specs.Faults.{Rose}
 use Rattle.tx_io.specs.Output.{Output, Piece, told}
 use Rattle.tx_io.specs.Cut.{IsCutShort}
 use Rattle.tx_machine.specs.Machine.{Formatter}
 use Rattle.tx_machine.specs.Steps.{raised}
-use Rattle.tx_request.specs.Requests.{AreRead}
+use Rattle.tx_request.specs.Requests.{AreRead, IsBrokenOff}
 use Rattle.tx_session.specs.Held.{Held, fresh}
 use Rattle.tx_session.specs.Standing.{now}
 use Rattle.tx_words.specs.declared.given.Serving.{Serving}
@@ -56,11 +58,23 @@ pub record IsServedToTheEnd {S : Type 0} (m : Formatter S) (held : Held) (left :
   pub over : so_far.rest ≡ []
   pub status_is : status ≡ status_of m (all_came m (begun held) so_far.events).behind
 
--- what a call leaves that serves these files: at status 0, 1 and 5 all that comes in is answered; at 3 nothing was done, or what came
--- before the fault is answered; and whatever the status, what is put out is the line and the answers, or the first of it
-pub record ServeLeaves {S : Type 0} (m : Formatter S) (held : Held) (left : Option (List ℕ)) (status : ℕ) (before after : Option Output) (steps steps' : ℕ) : Type 0 where
+-- all that was taken in whole was answered, up to where the inlet failed: what it leaves is broken off in the midst of what comes next
+pub record IsServedToTheFault {S : Type 0} (m : Formatter S) (held : Held) (left left' : Option (List ℕ)) (before after : Option Output) (steps steps' : ℕ) : Type 0 where
+  pub so_far : IsServed m held left before after steps steps'
+  pub broken : IfSome left (λ bytes. IsSomeAnd left' (IsBrokenOff so_far.rest))
+
+-- nothing was taken in, run or put out
+pub record IsUntouched (left left' : Option (List ℕ)) (before after : Option Output) (steps steps' : ℕ) : Type 0 where
+  pub left_is : left' ≡ left
+  pub output_is : after ≡ before
+  pub steps_are : steps' ≡ steps
+
+-- what a call leaves that serves these files: at status 0, 1 and 5 all that comes in is answered; at 3 the source failed, and nothing
+-- was taken in or done, or all that was taken in whole is answered; and whatever the status, what is put out is the line and the
+-- answers, or the first of it
+pub record ServeLeaves {S : Type 0} (m : Formatter S) (held : Held) (faults faults' : ℕ) (left left' : Option (List ℕ)) (status : ℕ) (before after : Option Output) (steps steps' : ℕ) : Type 0 where
   pub whole : (status < 2) ⊎ (status ≡ 5) → IsServedToTheEnd m held left status before after steps steps'
-  pub at_fault : status ≡ 3 → ((after ≡ before) × (steps' ≡ steps)) ⊎ IsServed m held left before after steps steps'
+  pub at_fault : status ≡ 3 → (Rose faults faults' × IsUntouched left left' before after steps steps') ⊎ IsServedToTheFault m held left left' before after steps steps'
   pub part : IsServedInPart m held left before after steps steps'
 
 -- a document that is served has, of the files that the source holds, those that the words list

@@ -1,8 +1,8 @@
 //! A document is served: its files are fetched, it is run, and what comes in is answered.
 ghost use Rattle.std.specs.Prelude.{◌≡◌, ℕ, ◌<◌, ◌≤◌, ◌⊎◌, IfOk, IsErrOf};
-ghost use Rattle.tx_call.specs.Hearing.{BreakCauses, IsSilent, Refuses, ServeCauses, ServesFiles};
+ghost use Rattle.tx_call.specs.Hearing.{BreakCauses, Refuses, ServeCauses, ServesFiles};
 ghost use Rattle.tx_call.specs.Outcome.{ForHeld, served};
-ghost use Rattle.tx_call.specs.Serving.{AsksForNone, AsksToServe, ForServing, serving_held};
+ghost use Rattle.tx_call.specs.Serving.{AsksForNone, AsksToServe, ForServing, IsUntouched, serving_held};
 ghost use Rattle.tx_words.specs.Words.{IsServing, words_meant, texts};
 
 use crate::fetching::fetch_files;
@@ -29,7 +29,7 @@ fn serve_files<M: Machine + Drop, I: Inlet, K: Sink>(
     steps: &mut Steps,
 ) -> Result<u8, Break>
     requires { IsServing serving.now }
-    ensures serves { ServesFiles M.formatter (served serving.now files) (I.left inlet.old) result (K.output sink.old) (K.output sink.new) steps.old steps.new }
+    ensures serves { ServesFiles M.formatter (served serving.now files) (I.left inlet.old) (I.left inlet.new) result (K.output sink.old) (K.output sink.new) steps.old steps.new }
     ensures range { IfOk result (λ status. (status < 2) ⊎ (status ≡ 5)) }
     ensures causes { BreakCauses result (I.faults inlet.old) (I.faults inlet.new) (K.faults sink.old) (K.faults sink.new) }
 {
@@ -59,9 +59,9 @@ fn serve_listed<M: Machine + Drop, S: Source, I: Inlet, K: Sink>(
     steps: &mut Steps,
 ) -> Result<u8, Break>
     requires { IsServing serving.now }
-    ensures serves { ForHeld (S.holds source.old) (λ held. ServesFiles M.formatter (serving_held serving.now held) (I.left inlet.old) result (K.output sink.old) (K.output sink.new) steps.old steps.new) }
+    ensures serves { ForHeld (S.holds source.old) (λ held. ServesFiles M.formatter (serving_held serving.now held) (I.left inlet.old) (I.left inlet.new) result (K.output sink.old) (K.output sink.new) steps.old steps.new) }
     ensures range { IfOk result (λ status. (status < 2) ⊎ (status ≡ 5)) }
-    ensures silent { IsErrOf result (Break.Trouble Trouble.Source) → IsSilent (K.output sink.old) (K.output sink.new) steps.old steps.new }
+    ensures silent { IsErrOf result (Break.Trouble Trouble.Source) → IsUntouched (I.left inlet.old) (I.left inlet.new) (K.output sink.old) (K.output sink.new) steps.old steps.new }
     ensures causes { ServeCauses result (S.faults source.old) (S.faults source.new) (I.faults inlet.old) (I.faults inlet.new) (K.faults sink.old) (K.faults sink.new) }
     ensures holds { S.holds source.new ≡ S.holds source.old }
 {
@@ -88,13 +88,13 @@ pub fn serve_words<M: Machine + Drop, S: Source, I: Inlet, K: Sink>(
     sink: &mut K,
     steps: &mut Steps,
 ) -> Result<u8, Break>
-    ensures serves { ForServing (words_meant (texts words.now)) (λ serving. ForHeld (S.holds source.old) (λ held. ServesFiles M.formatter (serving_held serving held) (I.left inlet.old) result (K.output sink.old) (K.output sink.new) steps.old steps.new)) }
+    ensures serves { ForServing (words_meant (texts words.now)) (λ serving. ForHeld (S.holds source.old) (λ held. ServesFiles M.formatter (serving_held serving held) (I.left inlet.old) (I.left inlet.new) result (K.output sink.old) (K.output sink.new) steps.old steps.new)) }
     ensures refuses { AsksForNone (words_meant (texts words.now)) → Refuses result (K.output sink.old) (K.output sink.new) × (steps.new ≡ steps.old) }
     ensures range { IfOk result (λ status. (status ≤ 2) ⊎ (status ≡ 5)) }
     ensures refused { IfOk result (λ status. status ≡ 2 → AsksForNone (words_meant (texts words.now))) }
     ensures fetched { IsErrOf result (Break.Trouble Trouble.Source) → AsksToServe (words_meant (texts words.now)) }
     ensures heard { IsErrOf result Break.Inlet → AsksToServe (words_meant (texts words.now)) }
-    ensures silent { IsErrOf result (Break.Trouble Trouble.Source) → IsSilent (K.output sink.old) (K.output sink.new) steps.old steps.new }
+    ensures silent { IsErrOf result (Break.Trouble Trouble.Source) → IsUntouched (I.left inlet.old) (I.left inlet.new) (K.output sink.old) (K.output sink.new) steps.old steps.new }
     ensures causes { ServeCauses result (S.faults source.old) (S.faults source.new) (I.faults inlet.old) (I.faults inlet.new) (K.faults sink.old) (K.faults sink.new) }
     ensures holds { S.holds source.new ≡ S.holds source.old }
 {

@@ -67,7 +67,7 @@ pub fn answer_all<M: Machine, I: Inlet, K: Sink>(
     sink: &mut K,
     steps: &mut Steps,
 ) -> Result<Tally, Break>
-    ensures serves { Serves M.formatter live.old (I.left inlet.old) result live.new (K.output sink.old) (K.output sink.new) steps.old steps.new }
+    ensures serves { Serves M.formatter live.old (I.left inlet.old) (I.left inlet.new) result live.new (K.output sink.old) (K.output sink.new) steps.old steps.new }
     ensures causes { BreakCauses result (I.faults inlet.old) (I.faults inlet.new) (K.faults sink.old) (K.faults sink.new) }
 {
     let mut tally = Tally {

@@ -1,5 +1,6 @@
 //! How a run ended, by the line that was said of it.
 use crate::run::{Run, text_of};
+use crate::telling::Line;
 use std::alloc::{AllocError, Global};
 use tx_files::Name;
 use tx_io::FilesRead;
@@ -71,7 +72,7 @@ fn write_budget_cause(
     let page = page_behind(line);
     write!(
         text,
-        "{main}: page {page} costs more than the budget of {budget}; --budget raises it"
+        "{main}: page {page} costs more than the budget of {budget}; --budget raises it, if no macro calls itself for ever"
     )
 }
 
@@ -80,8 +81,13 @@ fn write_limit_cause(text: &mut String, main: &str, line: &str) -> Result<(), Al
     let pages = pages(line);
     write!(
         text,
-        "{main}: the run ends with {pages} pages, as many as it may make; --pages raises that"
-    )
+        "{main}: the run ends with {pages} pages, as many as it may make"
+    )?;
+    // (no more can be asked for)
+    if pages == "10000" {
+        return Ok(());
+    }
+    text.push_str("; --pages raises that")
 }
 
 /// Writes why the last run, of which this is the line, didn't end by \end.
@@ -104,17 +110,80 @@ pub fn write_end_cause(text: &mut String, run: &Run<'_>, said: &str) -> Result<(
     write_moment(text, line)
 }
 
+/// The number of the error by which the last run ended, with its file and line, as they are said; none where it ended otherwise, or
+/// by an error that has no place.
+pub fn spot_of(said: &str) -> Option<(&str, &str, &str)> {
+    let (_, end) = last_line(said).rsplit_once(", error ")?;
+    let (code, place) = end.split_once(" at ")?;
+    let (name, line) = place.rsplit_once(" line ")?;
+    Some((code, name, line))
+}
+
+/// Whether this file, which isn't the main one, was listed and isn't there.
+fn is_absent(run: &Run<'_>, read: &FilesRead, name: &Name) -> bool {
+    let is_main = name.as_slice() == run.main.as_slice();
+    !is_main && !read.contains(name.as_slice())
+}
+
+/// Whether a file was listed that isn't there.
+fn lacks_any(run: &Run<'_>, read: &FilesRead) -> bool {
+    for name in run.files {
+        if is_absent(run, read, name) {
+            return true;
+        }
+    }
+    false
+}
+
+/// Writes how a file is listed that the document asked for, where an error of this number speaks of one.
+fn write_help(text: &mut String, code: &str, main: &str) -> Result<(), AllocError> {
+    match code {
+        "20" => write!(
+            text,
+            "      = a document has those files that its call lists: name this one behind {main}"
+        ),
+        "21" => write!(
+            text,
+            "      = a font is read from its .tfm file, which has to be listed behind {main} too"
+        ),
+        _ => Ok(()),
+    }
+}
+
+fn help_of(alloc: Global, code: &str, main: &Name) -> Result<String, AllocError> {
+    let mut text = String::new(alloc);
+    write_help(&mut text, code, text_of(main.as_slice()))?;
+    Ok(text)
+}
+
+/// Adds what would mend the error of this number, where one thing is likely; an absent file that was listed is told by itself.
+pub fn append_help(
+    alloc: Global,
+    lines: &mut Vec<Line>,
+    run: &Run<'_>,
+    code: &str,
+    read: &FilesRead,
+) -> Result<(), AllocError> {
+    if lacks_any(run, read) {
+        return Ok(());
+    }
+    let text = help_of(alloc, code, run.main)?;
+    if !text.is_empty() {
+        lines.push(Line::Below(text))?;
+    }
+    Ok(())
+}
+
 /// Adds a line for each file, but for the main one, that was listed and isn't there.
 pub fn append_absent_causes(
     alloc: Global,
-    lines: &mut Vec<String>,
+    lines: &mut Vec<Line>,
     run: &Run<'_>,
     read: &FilesRead,
 ) -> Result<(), AllocError> {
     for name in run.files {
-        let is_main = name.as_slice() == run.main.as_slice();
-        if !is_main && !read.contains(name.as_slice()) {
-            lines.push(absent_cause(alloc, name)?)?;
+        if is_absent(run, read, name) {
+            lines.push(Line::Cause(absent_cause(alloc, name)?))?;
         }
     }
     Ok(())

@@ -2,10 +2,12 @@
 //! sink keep, and by a second look at words, script and files. Nothing here is part of what is proved of a call but that
 //! it is safe: the words are tested, by `tools/check-program`.
 //!
-//! Read `run` (what a call was to run), `ends` (how a run ended), `outside` (edits), `dates`, `names` and `refusals` (words),
-//! `scripts`, `listings` (DVI files), `serving`, `faults` (the system's errors), `memory`, and then `causes` and `telling`.
+//! Read `run` (what a call was to run), `ends` (how a run ended), `outside` (edits), `around` (files, read once more), `quotes` (the
+//! line of an error), `dates`, `names` and `refusals` (words), `scripts`, `listings` (DVI files), `serving`, `faults` (the system's
+//! errors), `memory`, `notes` (what else is worth knowing), and then `telling` and `causes`.
 #![tactic(auto)]
 
+pub mod around;
 pub mod causes;
 mod dates;
 mod ends;
@@ -13,7 +15,9 @@ mod faults;
 mod listings;
 mod memory;
 mod names;
+mod notes;
 mod outside;
+mod quotes;
 pub mod refusals;
 pub mod run;
 mod scripts;

@@ -1,5 +1,6 @@
 //! Which edits went past the end of their file, and how long that was.
 use crate::run::text_of;
+use crate::telling::Line;
 use std::alloc::{AllocError, Global};
 use std::slice;
 use tx_files::{Change, Edit};
@@ -41,7 +42,7 @@ fn read_outside(line: &str) -> Option<Outside<'_>> {
 }
 
 /// The changes of a command; None where it makes none.
-fn changes_in(command: &Command) -> Option<&[Change]> {
+pub fn changes_in(command: &Command) -> Option<&[Change]> {
     match command {
         Command::Change(change) => Some(slice::from_ref(change)),
         Command::Batch(changes) => Some(changes.as_slice()),
@@ -110,13 +111,13 @@ fn line_of(alloc: Global, edit: Option<&Edit>, it: Outside<'_>) -> Result<String
 
 fn append_lines(
     alloc: Global,
-    lines: &mut Vec<String>,
+    lines: &mut Vec<Line>,
     said: &str,
     commands: &[Command],
 ) -> Result<(), AllocError> {
     for line in said.lines() {
         if let Some(it) = read_outside(line) {
-            lines.push(line_of(alloc, edit_of(commands, it), it)?)?;
+            lines.push(Line::Cause(line_of(alloc, edit_of(commands, it), it)?))?;
         }
     }
     Ok(())
@@ -125,7 +126,7 @@ fn append_lines(
 /// Adds a line for each edit that lay outside its file, by what was said and by the script's bytes.
 pub fn append_outside_causes(
     alloc: Global,
-    lines: &mut Vec<String>,
+    lines: &mut Vec<Line>,
     said: &str,
     bytes: &[u8],
 ) -> Result<(), AllocError> {

@@ -43,30 +43,48 @@ fn write_words(line: &mut String, text: &str) -> Result<(), AllocError> {
     Ok(())
 }
 
-/// Writes what the parser of command lines finds wrong first.
-fn write_parser_cause(alloc: Global, text: &mut String, error: &Error) -> Result<(), AllocError> {
+/// Writes what the parser of command lines finds wrong first with the words of this command.
+fn write_parser_cause(
+    alloc: Global,
+    text: &mut String,
+    command: &str,
+    error: &Error,
+) -> Result<(), AllocError> {
     let whole = error.to_string(alloc)?;
-    write_told(alloc, text, error.kind(), whole.as_str())
+    write_told(alloc, text, command, error.kind(), whole.as_str())
 }
 
 fn write_told(
     alloc: Global,
     text: &mut String,
+    command: &str,
     kind: ErrorKind,
     whole: &str,
 ) -> Result<(), AllocError> {
     let line = paragraph(alloc, whole)?;
-    write_kind(text, kind, line.as_str(), quoted(line.as_str()))
+    write_kind(text, command, kind, line.as_str(), quoted(line.as_str()))
+}
+
+/// Writes that a word may not stand there: an option that there isn't, or one word more than the command takes.
+fn write_unknown(text: &mut String, command: &str, thing: &str) -> Result<(), AllocError> {
+    if thing.len() > 1 && thing.starts_with('-') {
+        return write!(text, "{thing}: no such option here");
+    }
+    match command {
+        "list" => write!(text, "{thing}: one file too many, list takes one"),
+        _ => write!(text, "{thing}: one word too many"),
+    }
 }
 
 fn write_kind(
     text: &mut String,
+    command: &str,
     kind: ErrorKind,
     line: &str,
     thing: &str,
 ) -> Result<(), AllocError> {
     match kind {
-        ErrorKind::UnknownArgument => write!(text, "{thing}: no such option here"),
+        ErrorKind::UnknownArgument => write_unknown(text, command, thing),
         ErrorKind::InvalidSubcommand => write!(
             text,
             "{thing}: no such command, it is run, gen, list or serve"
@@ -185,7 +203,7 @@ fn write_fault(
     match words {
         [first, behind @ ..] if first.as_str() == "help" => write_help_cause(text, behind),
         _ => match parsed {
-            Err(error) => write_parser_cause(alloc, text, error),
+            Err(error) => write_parser_cause(alloc, text, command_of(words), error),
             Ok(matches) => match matches.subcommand() {
                 Some((name, found)) if name == "gen" => write_gen_cause(text, found),
                 Some((name, found)) if name == "list" => write_list_cause(text, found),
@@ -194,6 +212,14 @@ fn write_fault(
                 None => Ok(()),
             },
         },
+    }
+}
+
+/// The word that may name a command: the first one.
+fn command_of(words: &[String]) -> &str {
+    match words {
+        [first, ..] => first.as_str(),
+        [] => "",
     }
 }
 

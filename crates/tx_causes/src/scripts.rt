@@ -67,6 +67,16 @@ pub fn write_script_cause(
     }
 }
 
+/// Writes what is wanted where these bytes go on.
+fn write_here(text: &mut String, wanted: &str, byte: Option<&u8>) -> Result<(), AllocError> {
+    match byte {
+        Some(b'\r') => text.push_str(
+            "here stands a CR: the lines of a script end by LF alone, and not by CR and LF",
+        ),
+        _ => write!(text, "here is wanted {wanted}"),
+    }
+}
+
 /// Writes what is wanted at a place: by its line and column, where the bytes can be had.
 fn write_wanted(
     text: &mut String,
@@ -78,7 +88,8 @@ fn write_wanted(
     match (bytes, place.parse::<u64>()) {
         (Some(bytes), Ok(number)) => {
             let Spot { line, column } = spot_of(bytes, number);
-            write!(text, "{name}:{line}:{column}: here is wanted {wanted}")
+            write!(text, "{name}:{line}:{column}: ")?;
+            write_here(text, wanted, bytes.get(number as usize))
         }
         _ => write!(text, "{name}: at byte {place} is wanted {wanted}"),
     }

@@ -1,6 +1,7 @@
 //! Why a call that served a document ended badly. What was done was answered as it came, so only what ended the call is spoken of.
 use crate::causes::one;
 use crate::faults::{write_error, write_read_cause, write_unput_cause};
+use crate::telling::Line;
 use std::alloc::{AllocError, Global};
 use std::io::{self, ErrorKind};
 use std::rt::Files;
@@ -57,10 +58,10 @@ pub fn wanting_causes<R: Files + Print>(
     alloc: Global,
     source: &DirSource<'_, R>,
     sink: &DirSink<'_, R>,
-) -> Result<Vec<String>, AllocError> {
+) -> Result<Vec<Line>, AllocError> {
     let mut lines = one(alloc, wanting_cause(alloc, source.cause())?)?;
     if sink.cause().is_some() {
-        lines.push(answer_cause(alloc, sink)?)?;
+        lines.push(Line::Cause(answer_cause(alloc, sink)?))?;
     }
     Ok(lines)
 }

@@ -10,6 +10,7 @@ use Rattle.tx_prim.specs.declared.family.AtomPart.{AtomPart}
 use Rattle.tx_prim.specs.declared.family.AtomPart.TheVariants as atom
 use Rattle.tx_prim.specs.declared.family.BreakText.TheVariants as break
 use Rattle.tx_shape.specs.declared.types.Opener.TheVariants as opener
+use Rattle.tx_prim.specs.declared.family.CodedKind.TheVariants as coded
 use Rattle.tx_prim.specs.declared.family.DefinitionKind.{DefinitionKind}
 use Rattle.tx_node.specs.declared.rule.Rule.{Rule as Rule_sides}
 use Rattle.tx_prim.specs.declared.family.GlueForm.{GlueForm}
@@ -28,7 +29,7 @@ use Rattle.tx_prim.specs.declared.modes.Standing.{Standing as AStanding}
 use Rattle.tx_prim.specs.declared.modes.Standing.TheVariants.{Stands, BeginsParagraph, EndsParagraph, EndsRun, Refused}
 use Rattle.tx_prim.specs.declared.primitive.Primitive.{Primitive}
 use Rattle.tx_prim.specs.declared.primitive.Primitive.TheVariants as primitive
-use Rattle.tx_seen.specs.declared.error.TexError.TheVariants.{Undefined, NoAssignment, NotAllowed, MisplacedAlignment, MissingBeginGroup, MissingBox, BadFormula, BadName}
+use Rattle.tx_seen.specs.declared.error.TexError.TheVariants.{Undefined, NoAssignment, NotAllowed, MisplacedAlignment, MissingBeginGroup, MissingBox, BadFormula, BadName, MissingDelimiter}
 use Rattle.tx_seen.specs.declared.fed.Want.TheVariants.{Raw, Expanded}
 use Rattle.tx_seen.specs.declared.item.Item.{Item}
 use Rattle.tx_seen.specs.declared.item.Item.TheVariants.{Took, Gave}
@@ -39,7 +40,7 @@ use Rattle.tx_eqtb.specs.declared.entry.Entry.TheVariants as entry
 use Rattle.tx_seen.specs.declared.place.Place.{Place}
 use Rattle.tx_seen.specs.declared.place.Place.TheVariants as place
 use Rattle.tx_seen.specs.declared.seen.Seen.{Seen}
-use Rattle.tx_seen.specs.Seen.{is_space, is_relax}
+use Rattle.tx_seen.specs.Seen.{is_space, is_relax, continues_word}
 use Rattle.tx_seen.specs.Readings.{Reading, More, Done, Wrong, next}
 use Rattle.tx_scan.specs.declared.scans.Units.{Units}
 use Rattle.tx_scan.specs.Dimensions.{dimension, lengths}
@@ -57,11 +58,15 @@ use Rattle.tx_shape.specs.declared.types.Shaped.{Shaped}
 use Rattle.tx_shape.specs.declared.types.Shaped.TheVariants as shaped
 use Rattle.tx_shape.specs.declared.types.FontAsked.{FontAsked}
 use Rattle.tx_shape.specs.Loading.{loading as load}
+use Rattle.tx_node.specs.Items.{PackedBox}
+use Rattle.tx_shape.specs.Boxes.{needed_box}
+use Rattle.tx_shape.specs.declared.types.BoxContext.TheVariants.{Lead}
 use Rattle.tx_shape.specs.Shapes.{shape as shape_of}
 use Rattle.tx_command.specs.declared.types.Command.{Command}
-use Rattle.tx_command.specs.declared.types.Command.TheVariants.{Nothing, Space, Character, BeginGroup, EndGroup, BeginSemiSimple, EndSemiSimple, Prefix, Define, Assign, Sized, Rule, BeginBox, UseBox, CopyBox, LastBox, Unbox, Penalize, Skip, BeginLeaders, SetDepth, End, Interact, DefineMacro, BeginText, DefineFuture, Keep, Remove, ControlSpace, ItalicCorrection, Indent, InsertPar, EndParagraph, DiscretionaryHyphen, SetFactor, SetPrevGraf, BeginShape, Open, SetDeadCycles, SetPage, SplitBox, DefineFont, LoadFont, SetFontDimen, SetFontInteger, MathShift, BeginFormula, Script, MathCharacter, BeginAtom, SetLimits, SetStyle, BeginChoice, BeginFraction, MathSkip, Nonscript, SetFamily, Align, BeginAlign, ExpandOnce, Template, BeginEntry, EndAlign}
+use Rattle.tx_command.specs.declared.types.Command.TheVariants.{Nothing, Space, Character, BeginGroup, EndGroup, BeginSemiSimple, EndSemiSimple, Prefix, Define, Assign, Sized, Rule, BeginBox, UseBox, CopyBox, LastBox, Unbox, Penalize, Skip, BeginLeaders, SetDepth, End, Interact, DefineMacro, BeginText, DefineFuture, Keep, Remove, ControlSpace, ItalicCorrection, Indent, InsertPar, EndParagraph, DiscretionaryHyphen, SetFactor, SetPrevGraf, BeginShape, Open, SetDeadCycles, SetPage, SplitBox, DefineFont, LoadFont, SetFontDimen, SetFontInteger, MathShift, BeginFormula, Script, MathCharacter, BeginAtom, SetLimits, SetStyle, BeginChoice, BeginFraction, BeginDelimited, Coded, BeginAccent, EndAccent, MathSkip, Nonscript, SetFamily, Align, BeginAlign, ExpandOnce, Template, BeginEntry, EndAlign, BeginDisplay, EndDisplay, GoOn, BeginNumber}
+use Rattle.tx_command.specs.declared.types.Delimiting.{Delimiting}
 use Rattle.tx_command.specs.declared.types.Head.{Head}
-use Rattle.tx_command.specs.declared.types.Head.TheVariants.{Fresh, Prefixed, Defining, Future, Leading, Shift, Part, Loading, Shaping as Shaping_head, Opening, Aligning, Preamble, Row, Entry}
+use Rattle.tx_command.specs.declared.types.Head.TheVariants.{Fresh, Prefixed, Defining, Future, Leading, LeadingBox, Shift, Part, Delimiting as Delimiting_head, Thickness, Accenting, Loading, Shaping as Shaping_head, Opening, Aligning, Preamble, Row, Entry, SecondShift, Displayed}
 use Rattle.tx_command.specs.declared.types.Prefixes.{Prefixes}
 use Rattle.tx_command.specs.declared.scans.PreamblePart.{PreamblePart}
 use Rattle.tx_command.specs.declared.scans.PreamblePart.TheVariants as part
@@ -154,6 +159,8 @@ command_of (shaped.SetDepth size) = SetDepth size
 command_of (shaped.Skip g) = Skip g
 command_of (shaped.Character code) = Character code
 command_of (shaped.MathCharacter n) = MathCharacter n
+command_of (shaped.Coded kind n) = Coded kind n
+command_of (shaped.Accent code) = BeginAccent code
 command_of (shaped.MathSkip g) = MathSkip g
 command_of (shaped.SetFactor n) = SetFactor n
 command_of (shaped.SetPrevGraf n) = SetPrevGraf n
@@ -192,16 +199,24 @@ character_command code category.Invalid rest = Wrong NotAllowed
 abbrev pub leaders_rule : LeadersKind → RuleKind → List Item → Reading Command
 leaders_rule kind direction items = next (rule_sides (plain_rule direction) items) (λ rule behind. Done (BeginLeaders kind rule) behind)
 
--- a rule is needed, of either direction; boxes aren't repeated yet (section 1084)
-abbrev pub repeated : LeadersKind → Meaning → List Item → Reading Command
-repeated kind (meaning.Command (primitive.Rule direction)) rest = leaders_rule kind direction rest
-repeated kind other rest = Wrong MissingBox
+-- the box that leaders repeat
+abbrev pub led_box : LeadersKind → List Item → Reading Command
+led_box kind items = next (needed_box (Lead kind) items) (λ s behind. Done (command_of s) behind)
 
--- leaders: spaces and \relax, and a rule
+-- a rule is needed, of either direction, or a box (section 1084)
+abbrev pub led_rule : Meaning → Option RuleKind
+led_rule (meaning.Command (primitive.Rule direction)) = Some direction
+led_rule other = None
+
+abbrev pub repeated : LeadersKind → Option RuleKind → Seen → List Item → Reading Command
+repeated kind (Some direction) t rest = leaders_rule kind direction rest
+repeated kind None t rest = led_box kind (Took t ∷ rest)
+
+-- leaders: spaces and \relax, and a rule or a box
 abbrev pub leaders_of : LeadersKind → List Item → Reading Command
 leaders_of kind [] = More Expanded
 leaders_of kind (Gave v ∷ rest) = Wrong MissingBox
-leaders_of kind (Took t ∷ rest) = expanded t (if is_space t || is_relax t then leaders_of kind rest else repeated kind t.meaning rest)
+leaders_of kind (Took t ∷ rest) = expanded t (if is_space t || is_relax t then leaders_of kind rest else repeated kind (led_rule t.meaning) t rest)
 
 -- what a primitive takes behind it, by its family
 abbrev pub family_command : Primitive → List Item → Reading Command
@@ -259,12 +274,16 @@ family_command (primitive.Limits kind) rest = Done (SetLimits kind) rest
 family_command (primitive.Style style) rest = Done (SetStyle style) rest
 family_command primitive.Choice rest = Done BeginChoice rest
 family_command (primitive.Fraction kind) rest = Done (BeginFraction kind) rest
+family_command (primitive.Delimited what) rest = Done (BeginDelimited what) rest
+family_command (primitive.Coded kind) rest = shaping (shape.Coded kind) rest
+family_command primitive.Accent rest = shaping shape.Accent rest
 family_command primitive.MathGlue rest = shaping shape.MathGlue rest
 family_command primitive.Nonscript rest = Done Nonscript rest
 family_command (primitive.FamilyFont size) rest = shaping (shape.Family size) rest
 family_command primitive.Insert rest = shaping shape.Insert rest
 family_command primitive.Align rest = Done Align rest
 family_command (primitive.AlignWord word) rest = Wrong MisplacedAlignment
+family_command (primitive.EquationNumber side) rest = Done (BeginNumber side) rest
 family_command primitive.DeadCycles rest = shaping shape.DeadCycles rest
 family_command (primitive.Page quantity) rest = shaping (shape.Page quantity) rest
 family_command primitive.ItalicCorrection rest = Done ItalicCorrection rest
@@ -311,13 +330,19 @@ prefixes_of (Prefixed prefixes) = prefixes
 prefixes_of (Defining prefixes defined kind) = prefixes
 prefixes_of (Future prefixes defined) = prefixes
 prefixes_of (Leading kind rule) = record { global = false; long = false; outer = false }
+prefixes_of (LeadingBox kind b) = record { global = false; long = false; outer = false }
 prefixes_of Shift = record { global = false; long = false; outer = false }
 prefixes_of (Part part) = record { global = false; long = false; outer = false }
+prefixes_of (Delimiting_head what) = record { global = false; long = false; outer = false }
+prefixes_of (Thickness left right) = record { global = false; long = false; outer = false }
+prefixes_of (Accenting prefixes) = prefixes
 prefixes_of (Opening opener) = record { global = false; long = false; outer = false }
 prefixes_of (Aligning level) = record { global = false; long = false; outer = false }
 prefixes_of Preamble = record { global = false; long = false; outer = false }
 prefixes_of Row = record { global = false; long = false; outer = false }
 prefixes_of Entry = record { global = false; long = false; outer = false }
+prefixes_of SecondShift = record { global = false; long = false; outer = false }
+prefixes_of Displayed = record { global = false; long = false; outer = false }
 prefixes_of (Loading prefixes defined) = prefixes
 prefixes_of (Shaping_head prefixes left sizes) = prefixes
 
@@ -325,6 +350,11 @@ prefixes_of (Shaping_head prefixes left sizes) = prefixes
 abbrev pub leaders_before : Head → Option (LeadersKind × Rule_sides)
 leaders_before (Leading kind rule) = Some (kind, rule)
 leaders_before other = None
+
+-- the same with the box that they repeat
+abbrev pub box_before : Head → Option (LeadersKind × PackedBox)
+box_before (LeadingBox kind b) = Some (kind, b)
+box_before other = None
 
 -- whether its first token is only looked at, and read again
 abbrev pub is_peeking : Head → Bool
@@ -335,6 +365,21 @@ is_peeking other = false
 abbrev pub part_before : Head → Option AtomPart
 part_before (Part part) = Some part
 part_before other = None
+
+-- which delimiter it is to be
+abbrev pub delimiting_before : Head → Option Delimiting
+delimiting_before (Delimiting_head what) = Some what
+delimiting_before other = None
+
+-- the numbers of the delimiters that stand before it, where it is to be the size of a fraction's line
+abbrev pub delimiters_before : Head → Option (ℕ × ℕ)
+delimiters_before (Thickness left right) = Some (left, right)
+delimiters_before other = None
+
+-- whether an accent waits for what stands below it
+abbrev pub is_accenting : Head → Bool
+is_accenting (Accenting prefixes) = true
+is_accenting other = false
 
 -- the level of braces at which the \halign stood that stands before it (section 772)
 abbrev pub level_before : Head → ℤ
@@ -431,12 +476,16 @@ is_prefixable prefixes (primitive.Limits kind) = false
 is_prefixable prefixes (primitive.Style style) = false
 is_prefixable prefixes primitive.Choice = false
 is_prefixable prefixes (primitive.Fraction kind) = false
+is_prefixable prefixes (primitive.Delimited what) = false
+is_prefixable prefixes (primitive.Coded kind) = false
+is_prefixable prefixes primitive.Accent = false
 is_prefixable prefixes primitive.MathGlue = false
 is_prefixable prefixes primitive.Nonscript = false
 is_prefixable prefixes (primitive.FamilyFont size) = not (want_definition prefixes)
 is_prefixable prefixes primitive.Insert = false
 is_prefixable prefixes primitive.Align = false
 is_prefixable prefixes (primitive.AlignWord word) = false
+is_prefixable prefixes (primitive.EquationNumber side) = false
 is_prefixable prefixes primitive.DeadCycles = not (want_definition prefixes)
 is_prefixable prefixes (primitive.Page quantity) = not (want_definition prefixes)
 
@@ -456,6 +505,10 @@ may_be_prefixed prefixes (meaning.Font number) = not (want_definition prefixes)
 may_be_prefixed prefixes (meaning.Expandable e) = true
 may_be_prefixed prefixes (meaning.Macro m) = true
 may_be_prefixed prefixes meaning.Held = false
+
+-- the same where no prefix stands before it
+abbrev pub is_assignment : Meaning → Bool
+is_assignment m = may_be_prefixed (record { global = false; long = false; outer = false }) m
 
 -- a command behind a prefix: an assignment, with spaces and \relax before it, which do nothing (TeX: The Program, sections 404
 -- and 1211)
@@ -504,8 +557,8 @@ leading_command mode (Gave v ∷ rest) = Wrong MissingBox
 leading_command mode (Took t ∷ rest) =
     expanded t (if is_space t || is_relax t then Done Nothing rest else led_by (leading_glue mode t.meaning) rest)
 
--- behind a `$` that begins a formula: a second one in a paragraph begins a displayed formula, which can't be set yet; else the token is
--- read again (section 1138)
+-- behind a `$` that begins a formula: a second one in a paragraph begins a displayed formula; else the token is read again (section
+-- 1138)
 abbrev pub is_math_shift : Meaning → Bool
 is_math_shift (meaning.Character code category.MathShift) = true
 is_math_shift other = false
@@ -518,22 +571,39 @@ abbrev pub shift_command : Mode → List Item → Reading Command
 shift_command mode [] = More Raw
 shift_command mode (Gave v ∷ rest) = Wrong NotAllowed
 shift_command mode (Took t ∷ rest) =
-    if is_math_shift t.meaning && is_unrestricted mode then Wrong BadFormula else Done BeginFormula (Took t ∷ rest)
+    if is_math_shift t.meaning && is_unrestricted mode then Done BeginDisplay rest else Done BeginFormula (Took t ∷ rest)
 
--- a part of an atom: a character, a \mathchar, what stands for one of them, or a begin-group token, with spaces and \relax before it,
--- which do nothing (sections 1151 and 1153)
+-- behind a `$` that ends a displayed formula: a second one has to come (section 1197)
+abbrev pub second_shift_command : List Item → Reading Command
+second_shift_command [] = More Expanded
+second_shift_command (Gave v ∷ rest) = Wrong BadFormula
+second_shift_command (Took t ∷ rest) = expanded t (if is_math_shift t.meaning then Done EndDisplay rest else Wrong BadFormula)
+
+-- behind both: a space is skipped, and all else is read again (section 1200)
+abbrev pub displayed_command : List Item → Reading Command
+displayed_command [] = More Expanded
+displayed_command (Gave v ∷ rest) = Wrong NotAllowed
+displayed_command (Took t ∷ rest) = expanded t (if is_space t then Done GoOn rest else Done GoOn (Took t ∷ rest))
+
+-- a part of an atom: a character, a \mathchar, what stands for one of them, \delimiter, or a begin-group token, with spaces and \relax
+-- before it, which do nothing (sections 1151 and 1153)
 abbrev pub is_part_of : Cat → Bool
 is_part_of category.BeginGroup = true
 is_part_of category.Letter = true
 is_part_of category.Other = true
 is_part_of _ = false
 
+abbrev pub is_part_begun : Primitive → Bool
+is_part_begun primitive.Char = true
+is_part_begun primitive.MathChar = true
+is_part_begun (primitive.Coded coded.Delimiter) = true
+is_part_begun other = false
+
 abbrev pub is_part : Meaning → Bool
 is_part (meaning.Character code category) = is_part_of category
 is_part (meaning.CharacterNumber code) = true
 is_part (meaning.MathNumber number) = true
-is_part (meaning.Command primitive.Char) = true
-is_part (meaning.Command primitive.MathChar) = true
+is_part (meaning.Command p) = is_part_begun p
 is_part other = false
 
 abbrev pub part_command : List Item → Reading Command
@@ -544,6 +614,68 @@ part_command (Took t ∷ rest) =
     if is_space t || is_relax t then Done Nothing rest
     else if is_part t.meaning then command_meant t.meaning rest
     else Wrong MissingBeginGroup)
+
+-- a delimiter: a character of category 11 or 12, or \delimiter, with spaces and \relax before it, which do nothing (section 1160)
+abbrev pub is_delimiter_of : Cat → Bool
+is_delimiter_of category.Letter = true
+is_delimiter_of category.Other = true
+is_delimiter_of _ = false
+
+abbrev pub is_delimiter_begun : Primitive → Bool
+is_delimiter_begun (primitive.Coded coded.Delimiter) = true
+is_delimiter_begun other = false
+
+abbrev pub is_delimiter : Meaning → Bool
+is_delimiter (meaning.Character code category) = is_delimiter_of category
+is_delimiter (meaning.Command p) = is_delimiter_begun p
+is_delimiter other = false
+
+abbrev pub delimiter_command : List Item → Reading Command
+delimiter_command [] = More Expanded
+delimiter_command (Gave v ∷ rest) = Wrong MissingDelimiter
+delimiter_command (Took t ∷ rest) =
+    expanded t (
+    if is_space t || is_relax t then Done Nothing rest
+    else if is_delimiter t.meaning then command_meant t.meaning rest
+    else Wrong MissingDelimiter)
+
+-- behind an accent: the character below it, or an assignment, but for \setbox, with spaces and \relax before it, which do nothing;
+-- what is none of them ends the accent and is read again (sections 1123, 1124 and 1270)
+abbrev pub is_setbox : Meaning → Bool
+is_setbox (meaning.Command primitive.SetBox) = true
+is_setbox other = false
+
+abbrev pub accent_assigning : Mode → List Item → Reading Command
+accent_assigning mode [] = More Expanded
+accent_assigning mode (Gave v ∷ rest) = Wrong NotAllowed
+accent_assigning mode (Took t ∷ rest) =
+    if is_setbox t.meaning then Wrong NotAllowed
+    else if is_assignment t.meaning then fresh_command mode (Took t ∷ rest)
+    else Done EndAccent (Took t ∷ rest)
+
+abbrev pub accent_bare : Mode → List Item → Reading Command
+accent_bare mode [] = More Expanded
+accent_bare mode (Gave v ∷ rest) = Wrong NotAllowed
+accent_bare mode (Took t ∷ rest) =
+    expanded t (
+    if is_space t || is_relax t then Done Nothing rest
+    else if continues_word t then command_meant t.meaning rest
+    else accent_assigning mode (Took t ∷ rest))
+
+-- behind prefixes an assignment has to follow there too
+abbrev pub is_prefixed : Prefixes → Bool
+is_prefixed prefixes = (prefixes.global || prefixes.long) || prefixes.outer
+
+abbrev pub accent_prefixed : Prefixes → List Item → Reading Command
+accent_prefixed prefixes [] = More Expanded
+accent_prefixed prefixes (Gave v ∷ rest) = Wrong NoAssignment
+accent_prefixed prefixes (Took t ∷ rest) = if is_setbox t.meaning then Wrong NotAllowed else prefixed_command prefixes (Took t ∷ rest)
+
+abbrev pub accent_command : Mode → Prefixes → List Item → Reading Command
+accent_command mode prefixes [] = More Expanded
+accent_command mode prefixes (Gave v ∷ rest) = Wrong NotAllowed
+accent_command mode prefixes (Took t ∷ rest) =
+    if is_prefixed prefixes then accent_prefixed prefixes (Took t ∷ rest) else accent_bare mode (Took t ∷ rest)
 
 -- a preamble, token by token, as it stands: behind \span the next one is expanded once, and \tabskip is assigned (section 782)
 abbrev pub preamble_primitive : Primitive → PreamblePart
@@ -624,8 +756,12 @@ command mode (Prefixed prefixes) items = prefixed_command prefixes items
 command mode (Defining prefixes defined kind) items = assigning (assign.Named defined kind) items
 command mode (Future prefixes defined) items = future (Future prefixes defined) items
 command mode (Leading kind rule) items = leading_command mode items
+command mode (LeadingBox kind b) items = leading_command mode items
 command mode Shift items = shift_command mode items
 command mode (Part part) items = part_command items
+command mode (Delimiting_head what) items = delimiter_command items
+command mode (Thickness left right) items = sizing (size.Item sized.Above) items
+command mode (Accenting prefixes) items = accent_command mode prefixes items
 command mode (Loading prefixes defined) items = loading defined items
 command mode (Shaping_head prefixes left sizes) items = sizing size.Shape items
 command mode (Opening opener) items = shaping (shape.Open opener) items
@@ -633,6 +769,8 @@ command mode (Aligning level) items = shaping shape.Align items
 command mode Preamble items = preamble_command items
 command mode Row items = row_command items
 command mode Entry items = entry_command items
+command mode SecondShift items = second_shift_command items
+command mode Displayed items = displayed_command items
 
 -- whether a token of a command is taken
 abbrev pub is_begun : List Item → Bool

@@ -2,7 +2,7 @@
 use crate::types::Head;
 use std::alloc::AllocError;
 use tx_list::Kept;
-use tx_node::same_rule;
+use tx_node::{same_box, same_rule};
 
 impl Kept for Head {
     fn share(&self) -> Result<Self, AllocError> {
@@ -16,8 +16,12 @@ impl Kept for Head {
             )),
             Head::Future(prefixes, defined) => Ok(Head::Future(*prefixes, defined.clone()?)),
             Head::Leading(kind, rule) => Ok(Head::Leading(*kind, *rule)),
+            Head::LeadingBox(kind, repeated) => Ok(Head::LeadingBox(*kind, repeated.clone()?)),
             Head::Shift => Ok(Head::Shift),
             Head::Part(part) => Ok(Head::Part(*part)),
+            Head::Delimiting(delimiting) => Ok(Head::Delimiting(*delimiting)),
+            Head::Thickness(left, right) => Ok(Head::Thickness(*left, *right)),
+            Head::Accenting(prefixes) => Ok(Head::Accenting(*prefixes)),
             Head::Loading(prefixes, defined) => Ok(Head::Loading(*prefixes, defined.clone()?)),
             Head::Shaping(prefixes, left, sizes) => {
                 Ok(Head::Shaping(*prefixes, *left, sizes.share()?))
@@ -27,6 +31,8 @@ impl Kept for Head {
             Head::Preamble => Ok(Head::Preamble),
             Head::Row => Ok(Head::Row),
             Head::Entry => Ok(Head::Entry),
+            Head::SecondShift => Ok(Head::SecondShift),
+            Head::Displayed => Ok(Head::Displayed),
         }
     }
 
@@ -43,8 +49,16 @@ impl Kept for Head {
             (Head::Leading(one, rule), Head::Leading(other, also)) => {
                 *one == *other && same_rule(*rule, *also)
             }
+            (Head::LeadingBox(one, repeated), Head::LeadingBox(other, also)) => {
+                *one == *other && same_box(repeated, also)
+            }
             (Head::Shift, Head::Shift) => true,
             (Head::Part(one), Head::Part(other)) => *one == *other,
+            (Head::Delimiting(one), Head::Delimiting(other)) => *one == *other,
+            (Head::Thickness(one, right), Head::Thickness(other, also)) => {
+                *one == *other && *right == *also
+            }
+            (Head::Accenting(one), Head::Accenting(other)) => *one == *other,
             (Head::Loading(one, defined), Head::Loading(other, also)) => {
                 *one == *other && defined.same(also)
             }
@@ -56,6 +70,8 @@ impl Kept for Head {
             (Head::Preamble, Head::Preamble) => true,
             (Head::Row, Head::Row) => true,
             (Head::Entry, Head::Entry) => true,
+            (Head::SecondShift, Head::SecondShift) => true,
+            (Head::Displayed, Head::Displayed) => true,
             _ => false,
         }
     }

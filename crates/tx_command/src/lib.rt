@@ -25,4 +25,4 @@ pub use taken_items::TakenItems;
 pub use taking::CommandScan;
 pub use tokens::TakesTokens;
 pub use tx_shape::{AskedSize, BoxContext, BoxGoal};
-pub use types::{Command, Head, Prefixes, SizeUse};
+pub use types::{Command, Delimiting, Head, Prefixes, SizeUse};

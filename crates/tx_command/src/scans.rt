@@ -32,7 +32,7 @@ pub enum Stage {
     Sized(SizeUse),
     /// The sides of a rule of this kind.
     Rule(RuleKind),
-    /// The rule that such leaders repeat, with spaces and \relax before it.
+    /// The rule or the box that such leaders repeat, with spaces and \relax before it.
     Leaders(LeadersKind),
     /// The sides of that rule.
     LeadersRule(LeadersKind),

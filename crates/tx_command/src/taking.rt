@@ -13,13 +13,13 @@ use crate::buffer::CommandBuffer;
 use crate::scans::{Scans, Stage, Taken, Whole};
 use crate::taken_items::TakenItems;
 use crate::tokens::TakesTokens;
-use crate::types::{Head, Prefixes};
+use crate::types::{Delimiting, Head, Prefixes};
 use std::alloc::{AllocError, Global};
 use std::marker::Model;
 use std::mem::replace;
 use tx_assign::AssignScan;
 use tx_list::{Kept, both};
-use tx_node::Rule;
+use tx_node::{BoxNode, Rule};
 use tx_pending::Pending;
 use tx_prim::{AtomPart, LeadersKind, Mode};
 use tx_rule::RuleScan;
@@ -53,10 +53,14 @@ impl Drop for CommandScan {
 }
 
 impl Model for CommandScan {
+    ghost use Rattle.std.specs.Coded.{codes};
     ghost use Rattle.tx_command.specs.Begun.{Begun};
     ghost use Rattle.tx_command.specs.Rests.{IsAt};
+    ghost use Rattle.tx_command.specs.contracts.types.Head as a_head;
 
     ghost Value = { Begun };
+
+    ghost coded = { Prim.hlevel (codes, a_head.the_row.coded) };
 
     ghost view = { λ s. record { mode = s.mode; head = s.head; taken = s.taken } };
 
@@ -98,11 +102,14 @@ impl CommandScan {
     {
         match &self.head {
             Head::Fresh | Head::Leading(_, _) | Head::Opening(_) => no_prefixes(),
-            Head::Shift | Head::Part(_) => no_prefixes(),
+            Head::LeadingBox(_, _) | Head::Shift | Head::Part(_) => no_prefixes(),
+            Head::Delimiting(_) | Head::Thickness(_, _) => no_prefixes(),
             Head::Aligning(_) | Head::Preamble | Head::Row | Head::Entry => no_prefixes(),
+            Head::SecondShift | Head::Displayed => no_prefixes(),
             Head::Prefixed(prefixes) | Head::Defining(prefixes, _, _) | Head::Future(prefixes, _) =>
                 *prefixes,
             Head::Loading(prefixes, _) | Head::Shaping(prefixes, _, _) => *prefixes,
+            Head::Accenting(prefixes) => *prefixes,
         }
     }
 
@@ -114,6 +121,18 @@ impl CommandScan {
             Head::Leading(kind, rule) => Some((*kind, *rule)),
             // of all others alike
             _ => None,
+        }
+    }
+
+    /// The same with the box that they repeat, of which one more owner is answered. Its only error is that no more owners can be
+    /// counted.
+    pub fn box_leaders(&self) -> Result<Option<(LeadersKind, BoxNode)>, AllocError>
+        ensures { IfOk result (λ found. found ≡ commands.box_before self.now.head) }
+    {
+        match &self.head {
+            Head::LeadingBox(kind, repeated) => Ok(Some((*kind, repeated.clone()?))),
+            // of all others alike
+            _ => Ok(None),
         }
     }
 
@@ -133,6 +152,35 @@ impl CommandScan {
             // of all others alike
             _ => None,
         }
+    }
+
+    /// Which delimiter the command is to be.
+    pub fn delimiting(&self) -> Option<Delimiting>
+        ensures { result ≡ commands.delimiting_before self.now.head }
+    {
+        match &self.head {
+            Head::Delimiting(delimiting) => Some(*delimiting),
+            // of all others alike
+            _ => None,
+        }
+    }
+
+    /// The numbers of the delimiters that stand before the command, where it is to be the size of a fraction's line.
+    pub fn delimiters(&self) -> Option<(u32, u32)>
+        ensures { result ≡ commands.delimiters_before self.now.head }
+    {
+        match &self.head {
+            Head::Thickness(left, right) => Some((*left, *right)),
+            // of all others alike
+            _ => None,
+        }
+    }
+
+    /// Whether an accent waits for what stands below it.
+    pub fn is_accenting(&self) -> bool
+        ensures { result ≡ commands.is_accenting self.now.head }
+    {
+        matches!(self.head, Head::Accenting(_))
     }
 
     /// The level of braces at which the \halign stood that stands before the command; 0 where none does.
@@ -333,8 +381,10 @@ fn begun_want(head: &Head) -> Want
     match head {
         Head::Fresh | Head::Prefixed(_) | Head::Defining(_, _, _) => Want::Expanded,
         Head::Leading(_, _) | Head::Loading(_, _) | Head::Shaping(_, _, _) => Want::Expanded,
-        Head::Opening(_) | Head::Part(_) => Want::Expanded,
+        Head::LeadingBox(_, _) | Head::Opening(_) | Head::Part(_) => Want::Expanded,
+        Head::Delimiting(_) | Head::Thickness(_, _) | Head::Accenting(_) => Want::Expanded,
         Head::Aligning(_) | Head::Row | Head::Entry => Want::Expanded,
+        Head::SecondShift | Head::Displayed => Want::Expanded,
         Head::Future(_, _) | Head::Shift | Head::Preamble => Want::Raw,
     }
 }

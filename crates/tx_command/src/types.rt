@@ -3,12 +3,13 @@ use tx_assign::Assignment;
 use tx_bytes::Bytes;
 use tx_char::Token;
 use tx_list::Items;
-use tx_node::Rule;
+use tx_node::{BoxNode, Rule};
 use tx_num::Glue;
 use tx_prim::{
-    AfterKind, AtomClass, AtomPart, BoxKind, DefinitionKind, FontNumber, FractionKind, Indentation,
-    Interaction, ItemKind, LeadersKind, LimitsKind, MathSize, MathStyle, PageQuantity, Prefix,
-    RuleKind, Shorthand, SizeKind, TextUse, UnboxKind,
+    AfterKind, AtomClass, AtomPart, BoxKind, CodedKind, DefinitionKind, DelimitedKind,
+    DelimiterUse, FontNumber, FractionKind, Indentation, Interaction, ItemKind, LeadersKind,
+    LimitsKind, MathSize, MathStyle, NumberSide, PageQuantity, Prefix, RuleKind, Shorthand,
+    SizeKind, TextUse, UnboxKind,
 };
 use tx_seen::{FontName, Place, Seen};
 use tx_shape::{AskedSize, BoxContext, BoxGoal, Opener};
@@ -20,6 +21,15 @@ pub enum SizeUse {
     Item(SizeKind),
     /// It is the next one of \parshape.
     Shape,
+}
+
+/// Which delimiter is to follow.
+#[derive(Clone, Copy, PartialEq, Eq)]
+pub enum Delimiting {
+    /// The first one of this.
+    First(DelimiterUse),
+    /// The second one of a fraction, behind the one of this number.
+    Second(DelimitedKind, u32),
 }
 
 /// The prefixes before a command (The TeXbook, chapter 24).
@@ -43,10 +53,19 @@ pub enum Head {
     Future(Prefixes, Place),
     /// \leaders or its kin and the rule that they repeat: glue is to follow.
     Leading(LeadersKind, Rule),
+    /// The same with the box that they repeat.
+    LeadingBox(LeadersKind, BoxNode),
     /// A `$` that begins a formula: the token behind it is looked at.
     Shift,
     /// An atom with this part empty, which is to follow: a character, or a begin-group token.
     Part(AtomPart),
+    /// \left or its kin: a delimiter is to follow.
+    Delimiting(Delimiting),
+    /// \abovewithdelims and the numbers of its delimiters: the size of the line is to follow.
+    Thickness(u32, u32),
+    /// \accent and its character, and perhaps prefixes of an assignment: assignments are to follow, and perhaps the character below
+    /// it.
+    Accenting(Prefixes),
     /// \font, with its prefixes and the name that it defines: which font that is to mean is to follow.
     Loading(Prefixes, Place),
     /// \parshape, with its prefixes, how many sizes are to follow, and those that are read, in sp.
@@ -62,6 +81,10 @@ pub enum Head {
     Row,
     /// A further entry of a row is to follow.
     Entry,
+    /// A `$` that ends a displayed formula: a second one is to follow.
+    SecondShift,
+    /// A displayed formula that has ended: a space behind it is skipped, and all else is read again.
+    Displayed,
 }
 
 /// A command with all that belongs to it.
@@ -83,6 +106,14 @@ pub enum Command {
     MathShift,
     /// What stands behind a `$` that begins a formula; it is read again.
     BeginFormula,
+    /// A second `$` in a paragraph, which begins a displayed formula.
+    BeginDisplay,
+    /// A second `$` behind a displayed formula, which ends it.
+    EndDisplay,
+    /// What stands behind a displayed formula: the paragraph goes on.
+    GoOn,
+    /// `\eqno` or `\leqno`.
+    BeginNumber(NumberSide),
     /// A character that begins a superscript or a subscript.
     Script(AtomPart),
     /// `\mathchar` or what stands for it.
@@ -97,6 +128,14 @@ pub enum Command {
     BeginChoice,
     /// `\over` or `\atop`.
     BeginFraction(FractionKind),
+    /// `\left` or its kin, whose delimiters are to follow.
+    BeginDelimited(DelimiterUse),
+    /// `\delimiter` or its kin and its number.
+    Coded(CodedKind, i32),
+    /// `\accent` and its character, which assignments and perhaps the character below it are to follow.
+    BeginAccent(u8),
+    /// What stands behind them and is none; it is read again.
+    EndAccent,
     /// `\mskip`.
     MathSkip(Glue),
     /// `\nonscript`.

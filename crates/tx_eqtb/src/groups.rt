@@ -3,7 +3,7 @@
 use crate::parts::Parts;
 use std::alloc::AllocError;
 use tx_list::Kept;
-use tx_prim::{AtomPart, BreakText, MathStyle};
+use tx_prim::{AtomPart, BreakText, MathStyle, NumberSide};
 
 /// What opened a group, which has to be closed by the same (TeX: The Program, section 269).
 #[derive(Clone, Copy, PartialEq, Eq)]
@@ -20,10 +20,16 @@ pub enum GroupKind {
     Discretionary(BreakText),
     /// The `$` before a formula in a text.
     MathShift,
+    /// The two `$` before a displayed formula.
+    Display,
+    /// \eqno, or \leqno.
+    EquationNumber(NumberSide),
     /// The brace before this part of an atom.
     MathPart(AtomPart),
     /// The brace before the list of \mathchoice for this style.
     MathChoice(MathStyle),
+    /// \left and the delimiter of this number.
+    MathLeft(u32),
     /// The brace behind \insert and this class.
     Insert(u8),
     /// The brace that \output's tokens begin with.

@@ -83,10 +83,17 @@ impl Eqtb {
         if self.groups.kind() != Some(kind) {
             return Err(CloseError::NotThatGroup);
         }
+        self.leave_group();
+        Ok(())
+    }
+
+    /// The table is as it stands outside the innermost group, if one is open, which is left.
+    fn leave_group(&mut self)
+        ensures { self.new ≡ closed self.old }
+    {
         if let Some(outside) = self.groups.close() {
             drop(mem::replace(&mut self.table, outside));
         }
-        Ok(())
     }
 
     /// How many groups are open.

@@ -5,6 +5,7 @@ use Rattle.tx_char.specs.declared.category.Cat.TheVariants.{Active}
 use Rattle.tx_char.specs.declared.tokens.Token.TheVariants as token
 use Rattle.tx_command.specs.declared.types.Head.TheVariants.{Fresh}
 use Rattle.tx_command.specs.Commands.{part_before}
+use Rattle.tx_eqtb.specs.declared.table.Table.{Table}
 use Rattle.tx_eqtb.specs.Table.{number_at}
 use Rattle.tx_expand.specs.Turns.{put_back}
 use Rattle.tx_mlist.specs.declared.kinds.MathCharacter.{MathCharacter}
@@ -26,9 +27,12 @@ abbrev pub code_of : ℤ → Option ℕ
 code_of (pos n) = if nat_le n 32767 then Some n else None
 code_of (negsuc n) = None
 
--- the character that it tells
+-- the character that it tells, for the family that \fam is
+abbrev pub letter_in : Table → ℕ → MathCharacter
+letter_in table code = letter_of (integer table Fam) code
+
 abbrev pub letter_now : TexState → ℕ → MathCharacter
-letter_now s code = letter_of (integer s.table.table Fam) code
+letter_now s code = letter_in s.table.table code
 
 -- a part of the last atom is there
 abbrev pub part_set : TexState → AtomPart → Part → TexState

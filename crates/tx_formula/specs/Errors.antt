@@ -1,4 +1,6 @@
 -- What ends a run in a formula (TeX: The Program, sections 723, 1184 and 1195).
+use Rattle.tx_display.specs.declared.error.DisplayError.{DisplayError}
+use Rattle.tx_display.specs.declared.error.DisplayError.TheVariants as display
 use Rattle.tx_math.specs.declared.error.MathError.{MathError}
 use Rattle.tx_math.specs.declared.error.MathError.TheVariants as math
 use Rattle.tx_mlist.specs.declared.error.MlistError.{MlistError}
@@ -20,6 +22,11 @@ of_math math.NoFont = Refused BadFormula
 of_math math.FewParameters = Refused BadFormula
 of_math math.OutOfMemory = OutOfMemory
 
+abbrev pub of_display : DisplayError → FormulaError
+of_display display.SizeOutOfRange = Refused SizeOutOfRange
+of_display display.TooDeep = Refused TooDeep
+of_display display.OutOfMemory = OutOfMemory
+
 -- the error that ends the run; no formula ends it by want of memory
 abbrev pub error_of : FormulaError → TexError
 error_of (Refused error) = error
@@ -30,3 +37,6 @@ list_error error = error_of (of_list error)
 
 abbrev pub math_error : MathError → TexError
 math_error error = error_of (of_math error)
+
+abbrev pub display_error : DisplayError → TexError
+display_error error = error_of (of_display error)

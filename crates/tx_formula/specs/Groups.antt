@@ -7,9 +7,9 @@ use Rattle.tx_command.specs.declared.types.Head.TheVariants.{Fresh, Opening}
 use Rattle.tx_eqtb.specs.declared.groups.GroupKind.{GroupKind}
 use Rattle.tx_eqtb.specs.declared.groups.GroupKind.TheVariants.{MathPart}
 use Rattle.tx_mlist.specs.declared.kinds.AtomKind.TheVariants.{Ord}
-use Rattle.tx_mlist.specs.Building.{bare, filled}
+use Rattle.tx_mlist.specs.Building.{bare}
 use Rattle.tx_mlist.specs.Choices.{chosen}
-use Rattle.tx_mlist.specs.Items.{MathItem, Part}
+use Rattle.tx_mlist.specs.Items.{MathItem}
 use Rattle.tx_nest.specs.States.{mode_of}
 use Rattle.tx_prim.specs.declared.family.AtomPart.{AtomPart}
 use Rattle.tx_prim.specs.declared.family.AtomPart.TheVariants.{Nucleus}
@@ -22,7 +22,7 @@ use Rattle.tx_state.specs.Groups.{closing, opening}
 use Rattle.tx_state.specs.State.{TexState}
 use Rattle.tx_state.specs.Outcomes.{Outcome, fails, leaves}
 use Rattle.tx_formula.specs.Kinds.{place_of}
-use Rattle.tx_formula.specs.Lists.{ended_inner, ended_part}
+use Rattle.tx_formula.specs.Lists.{ended_group, ended_inner}
 use Rattle.tx_formula.specs.Noads.{changed, noad_added}
 
 -- a formula begins in the list that is being built, in a group of this kind
@@ -42,15 +42,12 @@ abbrev pub behind_formula : TexState → Lists → TexState
 behind_formula s lists = closing (record s { lists = lists; mode = mode_of lists.nest.innermost.state; taken = [] })
 
 -- it gives a part of an atom
-abbrev pub with_part : TexState → AtomPart → Part → Lists → TexState
-with_part s p part lists = behind_formula s (changed (filled (place_of p) part) lists)
-
-abbrev pub part_given : TexState → AtomPart → Result (Part × Lists) TexError → Outcome
-part_given s p (Err error) = fails error
-part_given s p (Ok ended) = leaves (with_part s p ended.0 ended.1)
+abbrev pub part_given : TexState → Result Lists TexError → Outcome
+part_given s (Err error) = fails error
+part_given s (Ok lists) = leaves (behind_formula s lists)
 
 abbrev pub ending_part : TexState → AtomPart → Outcome
-ending_part s p = part_given s p (ended_part s.lists)
+ending_part s p = part_given s (ended_group (place_of p) s.lists)
 
 -- or a list of \mathchoice, behind which the next one is to follow
 abbrev pub head_behind : MathStyle → Head

@@ -5,5 +5,8 @@ pub mod Characters
 pub mod Atoms
 pub mod Lists
 pub mod Groups
+pub mod Delimiters
 pub mod Params
 pub mod Shifts
+pub mod DisplayLists
+pub mod Displays

@@ -1,13 +1,13 @@
 -- Formulas in a text begin and end (TeX: The Program, sections 1138, 1139 and 1193 to 1196).
-use Rattle.std.specs.Prelude.{ℤ, pos, neg_ℤ, nat_lt, Bool, true, false, List, [], ◌∷◌, length, Option, Some, Result, Ok, Err, if◌then◌else◌}
+use Rattle.std.specs.Prelude.{ℕ, ℤ, pos, neg_ℤ, nat_lt, Bool, true, false, List, [], ◌∷◌, length, Option, Some, Result, Ok, Err, if◌then◌else◌}
 use Rattle.tx_box.specs.declared.parts.Lists.{Lists}
 use Rattle.tx_box.specs.Placing.{with_list}
 use Rattle.tx_box.specs.Sources.{appended}
-use Rattle.tx_command.specs.declared.types.Head.TheVariants.{Shift}
+use Rattle.tx_command.specs.declared.types.Head.TheVariants.{SecondShift, Shift}
 use Rattle.tx_eqtb.specs.declared.entry.Entry.TheVariants.{Number}
 use Rattle.tx_eqtb.specs.declared.eqtb.Eqtb.{Eqtb}
 use Rattle.tx_eqtb.specs.declared.groups.GroupKind.{GroupKind}
-use Rattle.tx_eqtb.specs.declared.groups.GroupKind.TheVariants.{MathShift}
+use Rattle.tx_eqtb.specs.declared.groups.GroupKind.TheVariants.{Display, EquationNumber, MathShift}
 use Rattle.tx_eqtb.specs.declared.table.Table.{Table}
 use Rattle.tx_eqtb.specs.Stack.{assigned, kind_of, opened}
 use Rattle.tx_eqtb.specs.Table.{number_at, tokens_at}
@@ -53,9 +53,18 @@ with_every s = record s { reader = put (tokens_at s.table.table (Tokens Everymat
 abbrev pub begun_text : TexState → TexState
 begun_text s = record (begun (with_every s)) { table = no_family s.table }
 
+abbrev pub beginning_in : TexState → GroupKind → Outcome
+beginning_in s kind =
+    if nat_lt (length s.table.groups) 255 then leaves (begun_text (record s { table = opened s.table kind })) else fails TooManyGroups
+
 abbrev pub beginning_text : TexState → Outcome
-beginning_text s =
-    if nat_lt (length s.table.groups) 255 then leaves (begun_text (record s { table = opened s.table MathShift })) else fails TooManyGroups
+beginning_text s = beginning_in s MathShift
+
+-- a list is set in a style, as tx_math numbers them; \overfullrule is a dimension, whatever is assigned
+abbrev pub set_in_style : List FontState → Table → ℕ → Bool → List MathItem → Result Formula MathError
+set_in_style fonts table style breaks list =
+    if fits (number_at table (Dimension Overfullrule)) then hlist (math_with fonts (math_params table)) style breaks list
+    else Err math.SizeOutOfRange
 
 -- its list is set in text style; lines may be broken behind its operations and relations in a paragraph alone (section 1196)
 abbrev pub is_paragraph : ModeState → Bool
@@ -63,9 +72,7 @@ is_paragraph (state.Horizontal factor) = true
 is_paragraph other = false
 
 abbrev pub set_list : List FontState → Table → Bool → List MathItem → Result Formula MathError
-set_list fonts table breaks list =
-    if fits (number_at table (Dimension Overfullrule)) then hlist (math_with fonts (math_params table)) 2 breaks list
-    else Err math.SizeOutOfRange
+set_list fonts table breaks list = set_in_style fonts table 2 breaks list
 
 abbrev pub set_beside : Lists → Result Formula MathError → Result (Formula × Lists) TexError
 set_beside lists (Err error) = Err (math_error error)
@@ -102,14 +109,18 @@ text_given s (Ok ended) = text_put s ended.0 ended.1
 abbrev pub ending_text : TexState → Outcome
 ending_text s = text_given s (ended_text s.words.fonts s.table.table s.lists)
 
--- a `$' in a formula ends it, if its group is the innermost one (section 1193)
+-- a `$' in a formula ends it, if its group is the innermost one; behind a displayed one, and behind the number of an equation, a
+-- second `$' is to follow (sections 1193 and 1197)
 abbrev pub ending_by : TexState → Option GroupKind → Outcome
 ending_by s (Some MathShift) = ending_text s
+ending_by s (Some Display) = leaves (record s { head = SecondShift })
+ending_by s (Some (EquationNumber side)) = leaves (record s { head = SecondShift })
 ending_by s other = fails ExtraGroupEnd
 
 -- in another list a formula begins, unless another `$' is read behind it
 abbrev pub shifting_in : TexState → Mode → Outcome
 shifting_in s mode.Math = ending_by s (kind_of s.table)
+shifting_in s mode.DisplayMath = ending_by s (kind_of s.table)
 shifting_in s other = leaves (record s { head = Shift })
 
 abbrev pub shifting : TexState → Outcome

@@ -1,8 +1,10 @@
 //! Atoms, scripts, limits, choices and fractions begin (TeX: The Program, sections 1156 to 1184).
 ghost use Rattle.std.specs.Prelude.{◌≡◌, ◌≢◌, [], Ok, Err, IfOk, IfErr, OnOk};
+ghost use Rattle.tx_box.specs.Formulas.{with_noad};
 ghost use Rattle.tx_formula.specs.Atoms as spec;
 ghost use Rattle.tx_formula.specs.declared.error.FormulaError.TheVariants.{OutOfMemory};
 ghost use Rattle.tx_formula.specs.Errors.{error_of};
+ghost use Rattle.tx_mlist.specs.Building as building;
 ghost use Rattle.tx_state.specs.declared.parts.Phase.{Phase};
 ghost use Rattle.tx_state.specs.Meanings.{IsStepped, state_of};
 
@@ -10,25 +12,43 @@ use crate::error::{FormulaError, fail_by_formula};
 use crate::kinds::{kind_from, limits_of, place_of};
 use crate::noads::{limit, prepare_script};
 use std::alloc::{AllocError, Global};
-use tx_box::{OpenFormula, append_noad, settle};
-use tx_command::Head;
+use tx_box::{Lists, OpenFormula, append_noad, settle};
+use tx_command::{CommandScan, Head};
 use tx_event::Event;
 use tx_list::Stack;
-use tx_mlist::{Above, Mlist, bare, no_choice, plain_head};
+use tx_mlist::{Above, AtomKind, FractionHead, Mlist, bare, no_choice};
 use tx_prim::{AtomClass, AtomPart, LimitsKind, MathStyle};
 use tx_seen::TexError;
 use tx_shape::Opener;
 use tx_state::{State, fail};
 
-/// \mathord or its kin: an atom, whose nucleus is to follow. Err is want of memory.
-pub fn begin_atom(alloc: Global, s: &mut State, class: AtomClass) -> Result<Event, AllocError>
-    requires running { s.old.phase ≡ Phase.Running }
-    requires between { s.old.scan.taken ≡ [] }
-    ensures { IfOk result (λ event. IsStepped (spec.beginning_atom (state_of s.old) class) s.old event s.new) }
+/// An atom of this kind, whose nucleus is to follow. Its only error is want of memory.
+pub(crate) fn begin_of_kind(
+    alloc: Global,
+    lists: &mut Lists,
+    scan: &mut CommandScan,
+    kind: AtomKind,
+) -> Result<(), AllocError>
+    ensures lists { OnOk result (lists.new ≡ with_noad (building.bare kind) lists.old) }
+    ensures scan { OnOk result (scan.new ≡ record { mode = scan.old.mode; head = Head.Part AtomPart.Nucleus; taken = [] }) }
 {
-    let atom = bare(alloc, kind_from(class))?;
-    append_noad(alloc, &mut s.lists, atom)?;
-    s.scan.begin_behind(Head::Part(AtomPart::Nucleus));
+    let atom = bare(alloc, kind)?;
+    append_noad(alloc, lists, atom)?;
+    scan.begin_behind(Head::Part(AtomPart::Nucleus));
+    Ok(())
+}
+
+/// \mathord or its kin: an atom, whose nucleus is to follow. Its only error is want of memory.
+pub fn begin_atom(
+    alloc: Global,
+    lists: &mut Lists,
+    scan: &mut CommandScan,
+    class: AtomClass,
+) -> Result<Event, AllocError>
+    requires { scan.old.taken ≡ [] }
+    ensures { (s : State) → s.phase ≡ Phase.Running → IfOk result (λ event. IsStepped (spec.beginning_atom (state_of (record s { lists = lists.old; scan = scan.old })) class) (record s { lists = lists.old; scan = scan.old }) event (record s { lists = lists.new; scan = scan.new })) }
+{
+    begin_of_kind(alloc, lists, scan, kind_from(class))?;
     Ok(Event::Went)
 }
 
@@ -78,10 +98,10 @@ pub fn begin_choice(alloc: Global, s: &mut State) -> Result<Event, AllocError>
 fn divided(
     alloc: Global,
     formula: OpenFormula,
-    thickness: Option<i32>,
+    head: FractionHead,
 ) -> Result<OpenFormula, FormulaError>
-    ensures made { IfOk result (λ made. spec.divided thickness formula ≡ Ok made) }
-    ensures error { IfErr result (λ e. e ≢ OutOfMemory → spec.divided thickness formula ≡ Err (error_of e)) }
+    ensures made { IfOk result (λ made. spec.divided head formula ≡ Ok made) }
+    ensures error { IfErr result (λ e. e ≢ OutOfMemory → spec.divided head formula ≡ Err (error_of e)) }
 {
     let OpenFormula { noads, above } = formula;
     match above {
@@ -90,10 +110,7 @@ fn divided(
             let numerator = noads.into_inner()?;
             Ok(OpenFormula {
                 noads: Mlist::new(alloc),
-                above: Some(Above {
-                    head: plain_head(thickness),
-                    numerator,
-                }),
+                above: Some(Above { head, numerator }),
             })
         }
     }
@@ -103,14 +120,14 @@ fn divided(
 fn divide_first(
     alloc: Global,
     formulas: &mut Stack<OpenFormula>,
-    thickness: Option<i32>,
+    head: FractionHead,
 ) -> Result<(), FormulaError>
-    ensures made { OnOk result (spec.first_divided thickness formulas.old ≡ Ok formulas.new) }
-    ensures error { IfErr result (λ e. e ≢ OutOfMemory → spec.first_divided thickness formulas.old ≡ Err (error_of e)) }
+    ensures made { OnOk result (spec.first_divided head formulas.old ≡ Ok formulas.new) }
+    ensures error { IfErr result (λ e. e ≢ OutOfMemory → spec.first_divided head formulas.old ≡ Err (error_of e)) }
 {
     match formulas.pop() {
         Some(formula) => {
-            let formula = divided(alloc, formula, thickness)?;
+            let formula = divided(alloc, formula, head)?;
             formulas.push(formula)?;
             Ok(())
         }
@@ -118,14 +135,14 @@ fn divide_first(
     }
 }
 
-/// \over or its kin: all that the formula has stands above a line that is so many sp thick, or as thick as the fonts tell.
-/// `BadFormula` where a line came already. Err is want of memory; the event may end the run by an error, as `dividing` says.
-pub fn divide(alloc: Global, s: &mut State, thickness: Option<i32>) -> Result<Event, AllocError>
+/// \over or its kin: all that the formula has stands above the line of a fraction that is this beside its lists. `BadFormula` where
+/// a line came already. Err is want of memory; the event may end the run by an error, as `dividing` says.
+pub fn divide(alloc: Global, s: &mut State, head: FractionHead) -> Result<Event, AllocError>
     requires { s.old.phase ≡ Phase.Running }
-    ensures { IfOk result (λ event. IsStepped (spec.dividing (state_of s.old) thickness) s.old event s.new) }
+    ensures { IfOk result (λ event. IsStepped (spec.dividing (state_of s.old) head) s.old event s.new) }
 {
     settle(alloc, &mut s.lists)?;
-    match divide_first(alloc, &mut s.lists.formulas, thickness) {
+    match divide_first(alloc, &mut s.lists.formulas, head) {
         Ok(()) => Ok(Event::Went),
         Err(error) => fail_by_formula(s, error),
     }

@@ -11,6 +11,7 @@ use crate::kinds::place_of;
 use crate::noads::{add_noad, fill};
 use std::alloc::{AllocError, Global};
 use tx_char::{Cat, Token};
+use tx_eqtb::Eqtb;
 use tx_event::Event;
 use tx_mlist::{Atom, Field, MathCharacter, Noad, kind_of, letter_of};
 use tx_prim::{AtomPart, CharacterCode, IntegerParameter};
@@ -18,7 +19,7 @@ use tx_seen::{Place, TexError};
 use tx_state::{State, fail};
 
 /// A number as 4096 times a class, 256 times a family and a character, if it is one.
-fn code_of(number: i32) -> Option<u16>
+pub(crate) fn code_of(number: i32) -> Option<u16>
     ensures { result ≡ spec.code_of number }
 {
     if 0 <= number && number <= 32767 {
@@ -29,10 +30,10 @@ fn code_of(number: i32) -> Option<u16>
 }
 
 /// The character that a code tells, for the family that \fam is.
-fn letter_now(s: &State, code: u16) -> MathCharacter
-    ensures { result ≡ spec.letter_now (state_of s.now) code }
+pub(crate) fn letter_now(table: &Eqtb, code: u16) -> MathCharacter
+    ensures { result ≡ spec.letter_in table.now.table code }
 {
-    letter_of(s.table.integer(IntegerParameter::Fam), code)
+    letter_of(table.integer(IntegerParameter::Fam), code)
 }
 
 /// What is read for a part of the last atom stands there. Err is want of memory.
@@ -53,7 +54,7 @@ fn add_letter(alloc: Global, s: &mut State, code: u16) -> Result<Event, AllocErr
 {
     let atom = Atom {
         kind: kind_of(code / 4096),
-        nucleus: Field::Character(letter_now(s, code)),
+        nucleus: Field::Character(letter_now(&s.table, code)),
         superscript: Field::Empty,
         subscript: Field::Empty,
     };
@@ -61,14 +62,14 @@ fn add_letter(alloc: Global, s: &mut State, code: u16) -> Result<Event, AllocErr
 }
 
 /// A character is the part that is awaited, or else the nucleus of an atom. Err is want of memory.
-fn set_letter(alloc: Global, s: &mut State, code: u16) -> Result<Event, AllocError>
+pub(crate) fn set_letter(alloc: Global, s: &mut State, code: u16) -> Result<Event, AllocError>
     requires running { s.old.phase ≡ Phase.Running }
     requires between { s.old.scan.taken ≡ [] }
     ensures { IfOk result (λ event. IsStepped (spec.lettering (state_of s.old) (part_before s.old.scan.head) code) s.old event s.new) }
 {
     match s.scan.part() {
         Some(part) => {
-            let field = Field::Character(letter_now(s, code));
+            let field = Field::Character(letter_now(&s.table, code));
             set_part(s, part, field)
         }
         None => add_letter(alloc, s, code),

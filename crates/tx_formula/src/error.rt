@@ -1,11 +1,12 @@
 //! What ends a run in a formula.
 ghost use Rattle.std.specs.Prelude.{◌≡◌, ◌≢◌, IfOk};
 ghost use Rattle.tx_formula.specs.declared.error.FormulaError.TheVariants.{OutOfMemory};
-ghost use Rattle.tx_formula.specs.Errors.{error_of, of_list, of_math};
+ghost use Rattle.tx_formula.specs.Errors.{error_of, of_display, of_list, of_math};
 ghost use Rattle.tx_state.specs.Meanings.{IsStepped};
 ghost use Rattle.tx_state.specs.Outcomes.{fails};
 
 use std::alloc::AllocError;
+use tx_display::DisplayError;
 use tx_event::Event;
 use tx_math::MathError;
 use tx_mlist::MlistError;
@@ -50,6 +51,18 @@ impl From<MathError> for FormulaError {
                 FormulaError::Refused(TexError::BadFormula)
             }
             MathError::OutOfMemory => FormulaError::OutOfMemory,
+        }
+    }
+}
+
+impl From<DisplayError> for FormulaError {
+    ghost from_gives = { λ error e. e ≡ of_display error };
+
+    fn from(error: DisplayError) -> Self {
+        match error {
+            DisplayError::SizeOutOfRange => FormulaError::Refused(TexError::SizeOutOfRange),
+            DisplayError::TooDeep => FormulaError::Refused(TexError::TooDeep),
+            DisplayError::OutOfMemory => FormulaError::OutOfMemory,
         }
     }
 }

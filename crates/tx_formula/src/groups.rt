@@ -1,36 +1,39 @@
 //! Groups of formulas begin and end (TeX: The Program, sections 1136, 1153, 1172 to 1174, and 1186).
 ghost use Rattle.std.specs.Prelude.{◌≡◌, [], Some, IfOk, OnOk};
+ghost use Rattle.tx_box.specs.FormulaLists.{with_formula};
 ghost use Rattle.tx_command.specs.Commands.{part_before};
 ghost use Rattle.tx_eqtb.specs.Stack.{kind_of};
 ghost use Rattle.tx_formula.specs.Groups as spec;
-ghost use Rattle.tx_mlist.specs.Noads.{part_of};
 ghost use Rattle.tx_state.specs.declared.parts.Phase.{Phase};
 ghost use Rattle.tx_state.specs.Meanings.{IsStepped, state_of};
 ghost use Rattle.tx_state.specs.Outcomes.{leaves};
 
 use crate::error::fail_by_formula;
 use crate::kinds::place_of;
-use crate::lists::{end_inner_list, end_part_list};
-use crate::noads::{choose, fill};
+use crate::lists::{end_group_list, end_inner_list};
+use crate::noads::choose;
 use std::alloc::{AllocError, Global};
-use tx_box::{append_noad, begin_formula};
-use tx_command::Head;
+use tx_box::{Lists, append_noad, begin_formula};
+use tx_command::{CommandScan, Head};
 use tx_eqtb::GroupKind;
 use tx_event::Event;
-use tx_mlist::{AtomKind, Field, InnerList, bare};
+use tx_mlist::{AtomKind, InnerList, bare};
 use tx_prim::{AtomPart, MathStyle, Mode};
 use tx_shape::Opener;
 use tx_state::{State, leave_group, open};
 
 /// A formula begins in the list that is being built, behind nothing. Its only error is want of memory.
-pub(crate) fn begin(alloc: Global, s: &mut State) -> Result<(), AllocError>
-    ensures state { OnOk result (state_of s.new ≡ spec.begun (state_of s.old)) }
-    ensures phase { OnOk result (s.new.phase ≡ s.old.phase) }
-    ensures said { OnOk result (s.new.said ≡ s.old.said) }
+pub(crate) fn begin(
+    alloc: Global,
+    lists: &mut Lists,
+    scan: &mut CommandScan,
+) -> Result<(), AllocError>
+    ensures lists { OnOk result (lists.new ≡ with_formula lists.old) }
+    ensures scan { OnOk result (scan.new ≡ record { mode = Mode.Math; head = Head.Fresh; taken = [] }) }
 {
-    begin_formula(alloc, &mut s.lists)?;
-    s.scan.begin_fresh();
-    s.scan.enter(Mode::Math);
+    begin_formula(alloc, lists)?;
+    scan.begin_fresh();
+    scan.enter(Mode::Math);
     Ok(())
 }
 
@@ -40,7 +43,7 @@ pub fn open_formula(alloc: Global, s: &mut State, kind: GroupKind) -> Result<Eve
     requires { s.old.phase ≡ Phase.Running }
     ensures { IfOk result (λ event. IsStepped (spec.opening_formula (state_of s.old) kind) s.old event s.new) }
 {
-    begin(alloc, s)?;
+    begin(alloc, &mut s.lists, &mut s.scan)?;
     open(s, kind)
 }
 
@@ -73,17 +76,6 @@ pub(crate) fn go_on(s: &mut State, kind: GroupKind) -> Result<(), AllocError>
     Ok(())
 }
 
-/// What a group gives stands at its place in the atom. Err is want of memory.
-fn give_part(s: &mut State, part: AtomPart, field: Field) -> Result<Event, AllocError>
-    requires running { s.old.phase ≡ Phase.Running }
-    requires kind { kind_of s.old.table ≡ Some (GroupKind.MathPart part) }
-    ensures { IfOk result (λ event. IsStepped (leaves (spec.with_part (state_of s.old) part (part_of field) s.old.lists)) s.old event s.new) }
-{
-    fill(&mut s.lists.formulas, place_of(part), field)?;
-    go_on(s, GroupKind::MathPart(part))?;
-    Ok(Event::Went)
-}
-
 /// The end of a group that gives a part of an atom. Err is want of memory; the event may end the run by an error, as `ending_part`
 /// says.
 pub fn end_part(alloc: Global, s: &mut State, part: AtomPart) -> Result<Event, AllocError>
@@ -91,8 +83,11 @@ pub fn end_part(alloc: Global, s: &mut State, part: AtomPart) -> Result<Event, A
     requires kind { kind_of s.old.table ≡ Some (GroupKind.MathPart part) }
     ensures { IfOk result (λ event. IsStepped (spec.ending_part (state_of s.old) part) s.old event s.new) }
 {
-    match end_part_list(alloc, &mut s.lists) {
-        Ok(field) => give_part(s, part, field),
+    match end_group_list(alloc, &mut s.lists, place_of(part)) {
+        Ok(()) => {
+            go_on(s, GroupKind::MathPart(part))?;
+            Ok(Event::Went)
+        }
         Err(error) => fail_by_formula(s, error),
     }
 }

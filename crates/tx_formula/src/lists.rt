@@ -1,16 +1,16 @@
 //! What the lists of formulas come to when they end (TeX: The Program, sections 1184 and 1185).
-ghost use Rattle.std.specs.Prelude.{◌≡◌, ◌≢◌, Ok, Err, map, IfOk, IfErr};
+ghost use Rattle.std.specs.Prelude.{◌≡◌, ◌≢◌, Ok, Err, map, IfOk, IfErr, OnOk};
 ghost use Rattle.tx_box.specs.Formulas.{with_more};
 ghost use Rattle.tx_formula.specs.declared.error.FormulaError.TheVariants.{OutOfMemory};
 ghost use Rattle.tx_formula.specs.Errors.{error_of};
 ghost use Rattle.tx_formula.specs.Lists as spec;
 ghost use Rattle.tx_mlist.specs.Items.{material};
-ghost use Rattle.tx_mlist.specs.Noads.{part_of};
 
 use crate::error::FormulaError;
 use std::alloc::Global;
 use tx_box::{Lists, OpenFormula, end_formula, with_nodes};
-use tx_mlist::{Field, InnerList, Mlist};
+use tx_list::Stack;
+use tx_mlist::{InnerList, Mlist, Place};
 use tx_node::Nodes;
 use tx_seen::TexError;
 
@@ -35,14 +35,46 @@ pub(crate) fn end_list(alloc: Global, lists: &mut Lists) -> Result<Mlist, Formul
     }
 }
 
-/// The same, as a part of an atom.
-pub(crate) fn end_part_list(alloc: Global, lists: &mut Lists) -> Result<Field, FormulaError>
-    ensures made { IfOk result (λ part. spec.ended_part lists.old ≡ Ok (part_of part, lists.new)) }
-    ensures error { IfErr result (λ e. e ≢ OutOfMemory → spec.ended_part lists.old ≡ Err (error_of e)) }
+/// A formula with what a group gives in it at a place of its last noad.
+fn grouped(formula: OpenFormula, place: Place, group: Mlist) -> Result<OpenFormula, FormulaError>
+    ensures made { IfOk result (λ made. spec.formula_grouped place group formula ≡ Ok made) }
+    ensures error { IfErr result (λ e. e ≢ OutOfMemory → spec.formula_grouped place group formula ≡ Err (error_of e)) }
 {
-    let list = end_list(alloc, lists)?;
-    let part = list.into_part()?;
-    Ok(part)
+    let mut formula = formula;
+    formula.noads.fill_group(place, group)?;
+    Ok(formula)
+}
+
+/// The same of the innermost formula.
+fn group_first(
+    formulas: &mut Stack<OpenFormula>,
+    place: Place,
+    group: Mlist,
+) -> Result<(), FormulaError>
+    ensures made { OnOk result (spec.first_grouped place group formulas.old ≡ Ok formulas.new) }
+    ensures error { IfErr result (λ e. e ≢ OutOfMemory → spec.first_grouped place group formulas.old ≡ Err (error_of e)) }
+{
+    match formulas.pop() {
+        Some(formula) => {
+            let formula = grouped(formula, place, group)?;
+            formulas.push(formula)?;
+            Ok(())
+        }
+        None => Ok(()),
+    }
+}
+
+/// The innermost formula, which ends, gives what stands at a place of the last noad of the one around it.
+pub(crate) fn end_group_list(
+    alloc: Global,
+    lists: &mut Lists,
+    place: Place,
+) -> Result<(), FormulaError>
+    ensures made { OnOk result (spec.ended_group place lists.old ≡ Ok lists.new) }
+    ensures error { IfErr result (λ e. e ≢ OutOfMemory → spec.ended_group place lists.old ≡ Err (error_of e)) }
+{
+    let group = end_list(alloc, lists)?;
+    group_first(&mut lists.formulas, place, group)
 }
 
 /// The same, as a list of \mathchoice.

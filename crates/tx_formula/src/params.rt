@@ -10,7 +10,7 @@ use tx_scan::byte;
 use tx_seen::Place;
 
 /// The number of the font of a family at a size.
-fn font_at(table: &Eqtb, size: MathSize, family: u8) -> u8
+pub(crate) fn font_at(table: &Eqtb, size: MathSize, family: u8) -> u8
     ensures { result ≡ spec.font_at table.now.table size family }
 {
     match byte(i64::from(table.number(&Place::Family(size, family)))) {

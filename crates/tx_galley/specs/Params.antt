@@ -6,7 +6,7 @@ use Rattle.tx_eqtb.specs.Table.{box_at, glue_at, number_at}
 use Rattle.tx_node.specs.declared.head.BoxHead.{BoxHead}
 use Rattle.tx_node.specs.declared.head.Direction.{Direction}
 use Rattle.tx_node.specs.declared.head.Direction.TheVariants.{Horizontal, Vertical}
-use Rattle.tx_node.specs.Items.{Item, plain, shared, boxed, discretionary, adjustment, insertion, PackedBox}
+use Rattle.tx_node.specs.Items.{Item, plain, shared, boxed, discretionary, adjustment, insertion, box_leaders, PackedBox}
 use Rattle.tx_pagebuilder.specs.declared.boxes.ClassBox.{ClassBox}
 use Rattle.tx_pagebuilder.specs.declared.class.Class.{Class}
 use Rattle.tx_pagebuilder.specs.declared.params.ClassParams.{ClassParams}
@@ -54,6 +54,7 @@ item_class table (boxed shift head inner) = None
 item_class table (discretionary head before behind) = None
 item_class table (adjustment inner) = None
 item_class table (insertion head inner) = Some (class_params table head.class)
+item_class table (box_leaders head repeated inner) = None
 
 abbrev pub params_with : Table → Option ClassParams → List ClassBox → PageParams
 params_with table class boxes = record {

@@ -55,6 +55,7 @@ fn node_class(table: &Eqtb, node: &Node) -> Option<ClassParams>
         Node::Insertion(inner) => Some(class_params(table, inner.head().class)),
         Node::Plain(_) | Node::Shared(_) | Node::Box(_, _) => None,
         Node::Discretionary(_) | Node::Adjustment(_) => None,
+        Node::BoxLeaders(_) => None,
     }
 }
 

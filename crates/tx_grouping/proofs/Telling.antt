@@ -16,7 +16,7 @@ use Rattle.tx_grouping.specs.GroupEnds.{list_ending, telling}
 use Rattle.tx_grouping.specs.ListEnds.{context_of, ending_box, ending_insert, ending_output_in, packing_box, packing_insert}
 use Rattle.tx_seen.specs.declared.error.TexError.{TexError}
 use Rattle.tx_shape.specs.declared.types.BoxContext.{BoxContext}
-use Rattle.tx_shape.specs.declared.types.BoxContext.TheVariants.{Adjust, Append, Center, Register, Ship}
+use Rattle.tx_shape.specs.declared.types.BoxContext.TheVariants.{Adjust, Append, Center, Lead, Register, Ship}
 use Rattle.tx_state.specs.declared.state.State.{State}
 use Rattle.tx_state.specs.Groups.{closing}
 use Rattle.tx_state.specs.Meanings.{IsStepped}
@@ -53,6 +53,7 @@ tells-in (Register n) o h = h
 tells-in Ship o h = h
 tells-in Adjust o h = h
 tells-in Center o h = h
+tells-in (Lead kind) o h = h
 
 -- and of the end of each list in which a paragraph may be open
 tells-box : (s : TexState) → Tells (ending_box s)
@@ -67,7 +68,7 @@ tells-insert s class =
 tells-output : (s : TexState) (left : Option VerticalLeft) → Tells (ending_output_in s left)
 tells-output s None = λ lines. refl
 tells-output s (Some left) =
-    tells-exercised (carrying s (record { lists = left.lists; table = s.table; due = None })) [] (output_ended left.items left.lists.nest s.table left.lists.pages)
+    tells-exercised (carrying s (record { lists = left.lists; table = s.table; due = None; leads = None })) [] (output_ended left.items left.lists.nest s.table left.lists.pages)
 
 pub tells-list : (which : GroupKind) (s : TexState) → Tells (list_ending which s)
 tells-list (group.Insert class) s = tells-insert s class
@@ -80,8 +81,11 @@ tells-list group.VerticalBox s = tells-box s
 tells-list group.TopBox s = tells-box s
 tells-list (group.Discretionary text) s = tells-box s
 tells-list group.MathShift s = tells-box s
+tells-list group.Display s = tells-box s
+tells-list (group.EquationNumber side) s = tells-box s
 tells-list (group.MathPart part) s = tells-box s
 tells-list (group.MathChoice style) s = tells-box s
+tells-list (group.MathLeft left) s = tells-box s
 tells-list group.Entry s = tells-box s
 tells-list group.Align s = tells-box s
 

@@ -14,6 +14,7 @@ use Rattle.tx_nest.specs.Grafs.{raised_graf}
 use Rattle.tx_node.specs.Items.{Item}
 use Rattle.tx_par.specs.declared.error.ParError.{ParError}
 use Rattle.tx_par.specs.declared.lines.Lines.{Lines as Set}
+use Rattle.tx_paragraph.specs.declared.last_line.LastLine.TheVariants.{OfParagraph}
 use Rattle.tx_paragraph.specs.Ending.{Left, closing, closing_in, counted, depth_of, ended_list, first_of, leaving, left, lines_if, setting, used_after}
 use Rattle.tx_paragraph.specs.Hyphens.{Hyphenating}
 
@@ -33,7 +34,7 @@ ended-keeps : (h : Hyphenating) (passed : ℕ) (list : List Item) (lists : Lists
 ended-keeps h passed [] lists table = refl
 ended-keeps h passed (item ∷ rest) lists table =
     let depth : ℤ = depth_of lists.nest.innermost.state in
-    setting-keeps (used_after (first_of table.table depth passed (item ∷ rest)) h.known) lists table passed (lines_if h table.table depth passed (item ∷ rest))
+    setting-keeps (used_after (first_of OfParagraph table.table depth passed (item ∷ rest)) h.known) lists table passed (lines_if h OfParagraph table.table depth passed (item ∷ rest))
 
 leaving-keeps : (h : Hyphenating) (around : List ModeList) (lists : Lists) (table : Eqtb) → Keeps table (leaving h around lists table)
 leaving-keeps h [] lists table = refl

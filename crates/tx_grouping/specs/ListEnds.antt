@@ -46,7 +46,7 @@ ending_insert s class = built (packing_insert s class)
 abbrev pub ending_output_in : TexState → Option VerticalLeft → Outcome
 ending_output_in s None = fails ExtraGroupEnd
 ending_output_in s (Some left) =
-    exercised (carrying s (record { lists = left.lists; table = s.table; due = None })) []
+    exercised (carrying s (record { lists = left.lists; table = s.table; due = None; leads = None })) []
     (output_ended left.items left.lists.nest s.table left.lists.pages)
 
 abbrev pub ending_output : TexState → Outcome
@@ -61,7 +61,7 @@ head_behind break.Instead = Fresh
 abbrev pub broken_off : TexState → BreakText → Result Lists TexError → Outcome
 broken_off s text (Err error) = fails error
 broken_off s text (Ok lists) =
-    leaves (record (carrying s (record { lists = lists; table = s.table; due = None })) { head = head_behind text })
+    leaves (record (carrying s (record { lists = lists; table = s.table; due = None; leads = None })) { head = head_behind text })
 
 abbrev pub ending_break : TexState → BreakText → Outcome
 ending_break s text = broken_off (closing s) text (broken text s.lists)

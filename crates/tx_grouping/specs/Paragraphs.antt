@@ -58,7 +58,7 @@ with_every_par false s = s
 with_every_par true s = record s { reader = put (tokens_at s.table.table (Tokens Everypar)) s.reader }
 
 abbrev pub indenting : Indentation → TexState → TexState
-indenting how s = carrying s (record { lists = indented how s.table.table s.lists; table = s.table; due = None })
+indenting how s = carrying s (record { lists = indented how s.table.table s.lists; table = s.table; due = None; leads = None })
 
 -- a paragraph that begins on the pages' list lets the page builder have its \parskip
 abbrev pub beginning_paragraph : Bool → TexState → Outcome
@@ -76,7 +76,7 @@ inserting_par s = record s { reader = put_back (token.Name (codes "par") ∷ [])
 -- \par (section 1094)
 abbrev pub paragraph_ended : TexState → Result paragraph.Left ParError → Outcome
 paragraph_ended s (Err error) = fails (paragraph.par_error error)
-paragraph_ended s (Ok left) = Leaves (carrying (record s { hyphenation = left.known }) (record { lists = left.lists; table = left.table; due = None })) left.report
+paragraph_ended s (Ok left) = Leaves (carrying (record s { hyphenation = left.known }) (record { lists = left.lists; table = left.table; due = None; leads = None })) left.report
 
 -- \par, behind which the page builder is exercised
 abbrev pub ending_paragraph : TexState → Outcome

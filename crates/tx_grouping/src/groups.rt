@@ -7,12 +7,11 @@ ghost use Rattle.tx_grouping.specs.GroupEnds.{behind_paragraph, ending, ending_s
 ghost use Rattle.tx_state.specs.Meanings.{IsStepped, state_of};
 
 use crate::lists::{end_box, end_break, end_output_list, finish_insert};
-use crate::paragraphs::paragraph_error;
 use std::alloc::{AllocError, Global};
 use tx_eqtb::GroupKind;
 use tx_event::Event;
 use tx_makeup::take_marker;
-use tx_paragraph::close_paragraph;
+use tx_paragraph::{close_paragraph, paragraph_error};
 use tx_seen::TexError;
 use tx_state::{State, fail, leave_group, stand_before_row};
 
@@ -100,6 +99,10 @@ pub fn end_group(alloc: Global, s: &mut State) -> Result<Event, AllocError>
         Some(GroupKind::NoAlign) => end_behind_paragraph(alloc, s, GroupKind::NoAlign),
         Some(GroupKind::Entry) => Ok(fail(s, TexError::MisplacedAlignment)),
         Some(GroupKind::MathShift | GroupKind::MathPart(_) | GroupKind::MathChoice(_)) => {
+            Ok(fail(s, TexError::ExtraGroupEnd))
+        }
+        Some(GroupKind::MathLeft(_)) => Ok(fail(s, TexError::ExtraGroupEnd)),
+        Some(GroupKind::Display | GroupKind::EquationNumber(_)) => {
             Ok(fail(s, TexError::ExtraGroupEnd))
         }
         Some(GroupKind::SemiSimple | GroupKind::Align) | None => {

@@ -1,10 +1,8 @@
 //! How paragraphs begin and end (TeX: The Program, sections 1090 to 1100).
-ghost use Rattle.std.specs.Prelude.{◌≡◌, ◌≢◌, ◌∷◌, ◌++◌, [], IfOk, OnOk};
+ghost use Rattle.std.specs.Prelude.{◌≡◌, ◌∷◌, ◌++◌, [], IfOk, OnOk};
 ghost use Rattle.tx_command.specs.Commands.{prefixes_of};
 ghost use Rattle.tx_grouping.specs.Paragraphs as spec;
 ghost use Rattle.tx_nest.specs.Grafs.{graf_of as graf_for};
-ghost use Rattle.tx_par.specs.declared.error.ParError.TheVariants.{OutOfMemory};
-ghost use Rattle.tx_paragraph.specs.Ending.{par_error};
 ghost use Rattle.tx_state.specs.Outcomes.{leaves};
 ghost use Rattle.tx_state.specs.declared.parts.Phase.{Phase};
 ghost use Rattle.tx_state.specs.Meanings.{IsStepped, state_of};
@@ -19,7 +17,7 @@ use tx_eqtb::{Entry, Eqtb, ParShape};
 use tx_event::Event;
 use tx_list::Items;
 use tx_nest::{graf_of, set_prev_graf};
-use tx_par::ParError;
+use tx_paragraph::paragraph_error;
 use tx_pending::Pending;
 use tx_prim::{Indentation, ModeTest, TokenParameter};
 use tx_seen::{Place, TexError};
@@ -144,19 +142,6 @@ pub fn add_size(alloc: Global, s: &mut State, size: i32) -> Result<Event, AllocE
             s.scan.begin_fresh();
             Ok(Event::Went)
         }
-    }
-}
-
-/// The error of a paragraph's lines by which the run ends, if that isn't want of memory.
-pub(crate) fn paragraph_error(error: ParError) -> Result<TexError, AllocError>
-    ensures told { IfOk result (λ told. told ≡ par_error error) }
-    ensures memory { IfOk result (λ _. error ≢ OutOfMemory) }
-{
-    match error {
-        ParError::SizeOutOfRange => Ok(TexError::SizeOutOfRange),
-        ParError::TooDeep => Ok(TexError::TooDeep),
-        ParError::EndlessShrink => Ok(TexError::InfiniteShrink),
-        ParError::OutOfMemory => Err(AllocError),
     }
 }
 

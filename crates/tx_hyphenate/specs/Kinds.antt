@@ -1,18 +1,19 @@
 -- What items are to hyphenation (TeX: The Program, sections 866 and 896 to 899).
 use Rattle.std.specs.Prelude.{Bool, true, false}
 use Rattle.tx_node.specs.declared.plain.KernKind.{KernKind}
-use Rattle.tx_node.specs.declared.plain.KernKind.TheVariants.{Implicit, Explicit, MathOn, MathOff}
+use Rattle.tx_node.specs.declared.plain.KernKind.TheVariants.{Accent, Implicit, Explicit, MathOn, MathOff}
 use Rattle.tx_node.specs.declared.plain.Plain.{Plain}
 use Rattle.tx_node.specs.declared.plain.Plain.TheVariants as p
 use Rattle.tx_node.specs.declared.plain.Shared.{Shared}
 use Rattle.tx_node.specs.declared.plain.Shared.TheVariants as s
-use Rattle.tx_node.specs.Items.{Item, plain, shared, boxed, discretionary, adjustment, insertion}
+use Rattle.tx_node.specs.Items.{Item, plain, shared, boxed, discretionary, adjustment, insertion, box_leaders}
 use Rattle.tx_hyphenate.specs.declared.kind.Kind.{Kind}
 use Rattle.tx_hyphenate.specs.declared.kind.Kind.TheVariants.{Characters, Kern, Special, Glue, Ends, Other}
 
--- a kern that isn't a font's is one of \kern, or stands at one end of a formula
+-- a kern that isn't a font's is one of \kern or \accent, or stands at one end of a formula
 abbrev pub kern_kind : KernKind → Kind
 kern_kind Implicit = Kern
+kern_kind Accent = Ends
 kern_kind Explicit = Ends
 kern_kind MathOn = Other
 kern_kind MathOff = Other
@@ -26,6 +27,7 @@ plain_kind (p.Character c) = Characters
 -- whether items stand in a formula behind this one, where they do before it or not
 abbrev pub is_formula_behind_kern : Bool → KernKind → Bool
 is_formula_behind_kern formula Implicit = formula
+is_formula_behind_kern formula Accent = formula
 is_formula_behind_kern formula Explicit = formula
 is_formula_behind_kern formula MathOn = true
 is_formula_behind_kern formula MathOff = false
@@ -43,6 +45,7 @@ is_formula_behind formula (boxed shift head inner) = formula
 is_formula_behind formula (discretionary head before behind) = formula
 is_formula_behind formula (adjustment inner) = formula
 is_formula_behind formula (insertion head inner) = formula
+is_formula_behind formula (box_leaders head repeated inner) = formula
 
 abbrev pub shared_kind : Shared → Kind
 shared_kind (s.Rule r) = Other
@@ -58,3 +61,4 @@ kind (boxed shift head inner) = Other
 kind (discretionary head before behind) = Other
 kind (adjustment inner) = Ends
 kind (insertion head inner) = Ends
+kind (box_leaders head repeated inner) = Glue

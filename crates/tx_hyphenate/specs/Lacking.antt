@@ -1,6 +1,6 @@
 -- What the transcript gets of characters that their fonts lack (TeX: The Program, sections 581 and 915).
 use Rattle.std.specs.Prelude.{ℕ, List, [], ◌∷◌, ◌++◌, Option, Some, None, codes, decimal}
-use Rattle.tx_node.specs.Items.{Item, plain, shared, boxed, discretionary, adjustment, insertion}
+use Rattle.tx_node.specs.Items.{Item, plain, shared, boxed, discretionary, adjustment, insertion, box_leaders}
 use Rattle.tx_tfm.specs.declared.state.FontState.{FontState}
 use Rattle.tx_tfm.specs.Fonts.{font_name}
 
@@ -21,3 +21,4 @@ division_report report (boxed shift head inner) = []
 division_report report (discretionary head before behind) = report
 division_report report (adjustment inner) = []
 division_report report (insertion head inner) = []
+division_report report (box_leaders head repeated inner) = []

@@ -4,7 +4,7 @@ use Rattle.tx_node.specs.declared.plain.Plain.{Plain}
 use Rattle.tx_node.specs.declared.plain.Plain.TheVariants.{Kern, Glue, Penalty, Character}
 use Rattle.tx_node.specs.declared.plain.Shared.{Shared}
 use Rattle.tx_node.specs.declared.plain.Shared.TheVariants.{Rule, Leaders, Special, Ligature, Mark}
-use Rattle.tx_node.specs.Items.{Item, plain, shared, boxed, discretionary, adjustment, insertion}
+use Rattle.tx_node.specs.Items.{Item, plain, shared, boxed, discretionary, adjustment, insertion, box_leaders}
 
 -- the font of a character or a ligature; None of other items
 abbrev pub plain_font : Plain → Option ℕ
@@ -27,6 +27,7 @@ font_of (boxed shift head inner) = None
 font_of (discretionary head before behind) = None
 font_of (adjustment inner) = None
 font_of (insertion head inner) = None
+font_of (box_leaders head repeated inner) = None
 
 -- the characters that it was made of
 abbrev pub plain_codes : Plain → List ℕ
@@ -49,6 +50,7 @@ codes_of (boxed shift head inner) = []
 codes_of (discretionary head before behind) = []
 codes_of (adjustment inner) = []
 codes_of (insertion head inner) = []
+codes_of (box_leaders head repeated inner) = []
 
 -- the first of them
 abbrev pub first_code : Item → Option ℕ

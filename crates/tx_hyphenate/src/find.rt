@@ -151,7 +151,8 @@ fn letters_of(lower: &[u8], node: &Node) -> Option<usize>
         | Node::Box(_, _)
         | Node::Discretionary(_)
         | Node::Adjustment(_)
-        | Node::Insertion(_) => Some(0),
+        | Node::Insertion(_)
+        | Node::BoxLeaders(_) => Some(0),
     }
 }
 

@@ -30,7 +30,7 @@ fn plain_kind(item: Plain) -> Kind
 {
     match item {
         Plain::Kern(KernKind::Implicit, _) => Kind::Kern,
-        Plain::Kern(KernKind::Explicit, _) | Plain::Penalty(_) => Kind::Ends,
+        Plain::Kern(KernKind::Accent | KernKind::Explicit, _) | Plain::Penalty(_) => Kind::Ends,
         Plain::Kern(KernKind::MathOn | KernKind::MathOff, _) => Kind::Other,
         Plain::Glue(_) => Kind::Glue,
         Plain::Character(_) => Kind::Characters,
@@ -58,6 +58,7 @@ pub(crate) fn kind_of(node: &Node) -> Kind
         Node::Shared(item) => shared_kind(item),
         Node::Box(_, _) | Node::Discretionary(_) => Kind::Other,
         Node::Adjustment(_) | Node::Insertion(_) => Kind::Ends,
+        Node::BoxLeaders(_) => Kind::Glue,
     }
 }
 
@@ -73,7 +74,8 @@ pub(crate) fn is_formula_behind(formula: bool, node: &Node) -> bool
         | Node::Box(_, _)
         | Node::Discretionary(_)
         | Node::Adjustment(_)
-        | Node::Insertion(_) => formula,
+        | Node::Insertion(_)
+        | Node::BoxLeaders(_) => formula,
     }
 }
 
@@ -91,7 +93,8 @@ pub(crate) fn font_of(node: &Node) -> Option<u8>
         | Node::Box(_, _)
         | Node::Discretionary(_)
         | Node::Adjustment(_)
-        | Node::Insertion(_) => None,
+        | Node::Insertion(_)
+        | Node::BoxLeaders(_) => None,
     }
 }
 
@@ -109,7 +112,8 @@ pub(crate) fn first_code(node: &Node) -> Option<u8>
         | Node::Box(_, _)
         | Node::Discretionary(_)
         | Node::Adjustment(_)
-        | Node::Insertion(_) => None,
+        | Node::Insertion(_)
+        | Node::BoxLeaders(_) => None,
     }
 }
 
@@ -127,6 +131,7 @@ pub(crate) fn append_codes(codes: &mut Bytes, node: &Node) -> Result<(), AllocEr
         | Node::Box(_, _)
         | Node::Discretionary(_)
         | Node::Adjustment(_)
-        | Node::Insertion(_) => Ok(()),
+        | Node::Insertion(_)
+        | Node::BoxLeaders(_) => Ok(()),
     }
 }

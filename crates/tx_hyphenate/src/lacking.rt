@@ -54,7 +54,8 @@ fn report_division(
         | Node::Shared(_)
         | Node::Box(_, _)
         | Node::Adjustment(_)
-        | Node::Insertion(_) => Ok(()),
+        | Node::Insertion(_)
+        | Node::BoxLeaders(_) => Ok(()),
     }
 }
 

@@ -6,7 +6,7 @@ use Rattle.tx_node.specs.declared.plain.Plain.TheVariants.{Kern, Glue, Penalty, 
 use Rattle.tx_node.specs.declared.plain.Shared.{Shared}
 use Rattle.tx_node.specs.declared.plain.Shared.TheVariants.{Rule, Leaders, Special, Ligature, Mark}
 use Rattle.tx_node.specs.declared.rule.Rule.{Rule as RuleSides}
-use Rattle.tx_node.specs.Items.{Item, plain, shared, boxed, discretionary, adjustment, insertion}
+use Rattle.tx_node.specs.Items.{Item, plain, shared, boxed, discretionary, adjustment, insertion, box_leaders}
 use Rattle.tx_node.specs.Sizes.{side}
 use Rattle.tx_insert.specs.declared.kind.Kind.{Kind}
 use Rattle.tx_insert.specs.declared.kind.Kind.TheVariants.{Solid, Skip, Kern as KernKind, Penalty as PenaltyKind, Still}
@@ -39,6 +39,7 @@ kind_of (boxed shift head inner) = Solid head.height head.depth
 kind_of (discretionary head before behind) = Still
 kind_of (adjustment inner) = Still
 kind_of (insertion head inner) = Still
+kind_of (box_leaders head repeated inner) = Skip head.glue
 
 abbrev pub kinds_of : List Item → List Kind
 kinds_of list = map kind_of list

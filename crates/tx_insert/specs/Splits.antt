@@ -7,7 +7,7 @@ use Rattle.tx_num.specs.Glue.{GlueSpec}
 use Rattle.tx_node.specs.declared.plain.Plain.TheVariants.{Glue}
 use Rattle.tx_node.specs.declared.plain.Shared.{Shared}
 use Rattle.tx_node.specs.declared.plain.Shared.TheVariants.{Rule, Leaders, Special, Ligature, Mark}
-use Rattle.tx_node.specs.Items.{Item, plain, shared, boxed, discretionary, adjustment, insertion}
+use Rattle.tx_node.specs.Items.{Item, plain, shared, boxed, discretionary, adjustment, insertion, box_leaders}
 use Rattle.tx_insert.specs.declared.error.SplitError.{SplitError}
 use Rattle.tx_insert.specs.declared.error.SplitError.TheVariants.{SizeOutOfRange}
 use Rattle.tx_insert.specs.declared.kind.Kind.{Kind}
@@ -33,6 +33,7 @@ mark_of (boxed shift head inner) = None
 mark_of (discretionary head before behind) = None
 mark_of (adjustment inner) = None
 mark_of (insertion head inner) = None
+mark_of (box_leaders head repeated inner) = None
 
 -- the one of two marks that there is, the first one where there are both
 abbrev pub either : Option (List Token) → Option (List Token) → Option (List Token)

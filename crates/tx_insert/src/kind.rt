@@ -64,6 +64,7 @@ pub fn kind_of(node: &Node) -> Kind
         Node::Shared(item) => shared_kind(item),
         Node::Box(_, inner) => Kind::Solid(inner.height(), inner.depth()),
         Node::Discretionary(_) | Node::Adjustment(_) | Node::Insertion(_) => Kind::Still,
+        Node::BoxLeaders(leaders) => Kind::Skip(leaders.head().glue),
     }
 }
 

@@ -24,6 +24,7 @@ fn mark_of(node: &Node) -> Result<Option<TokList>, AllocError>
         Node::Shared(item) => shared_mark(item),
         Node::Plain(_) | Node::Box(_, _) => Ok(None),
         Node::Discretionary(_) | Node::Adjustment(_) | Node::Insertion(_) => Ok(None),
+        Node::BoxLeaders(_) => Ok(None),
     }
 }
 

@@ -18,16 +18,16 @@ line_of bytes = take (line_len bytes) bytes
 abbrev pub behind_line : List ℕ → List ℕ
 behind_line bytes = drop (line_len bytes) bytes
 
--- what came is this front of what was to come, and what follows it is still to come
+-- what came is this front of what was to come, and what follows it is still to come; where it failed nothing was taken
 abbrev pub ComesFrom : Came → (List ℕ → List ℕ) → Option (List ℕ) → Option (List ℕ) → Type 0
 ComesFrom (Here bytes) front before after = IfSome before (λ left. (bytes ≡ front left) × (after ≡ Some (drop (length bytes) left)))
-ComesFrom Failed front before after = Unit {0}
+ComesFrom Failed front before after = after ≡ before
 ComesFrom OutOfMemory front before after = Unit {0}
 
--- a line was passed over
+-- a line was passed over, or, where it failed, nothing
 abbrev pub PassGives : Passed → Option (List ℕ) → Option (List ℕ) → Type 0
 PassGives passed.Done before after = IfSome before (λ left. after ≡ Some (behind_line left))
-PassGives passed.Failed before after = Unit {0}
+PassGives passed.Failed before after = after ≡ before
 
 -- Failed comes only where a fault was counted, and any other answer leaves the count
 abbrev pub ComeCause : Came → ℕ → ℕ → Type 0

@@ -10,7 +10,7 @@ use tx_bytes::Bytes;
 pub enum Came {
     /// These came; none exactly where all have come, or none were asked for.
     Here(Bytes),
-    /// They couldn't be read. The inlet has counted a fault.
+    /// They couldn't be read, and of what the inlet tells none was taken. It has counted a fault.
     Failed,
     /// There was no memory left for them.
     OutOfMemory,
@@ -21,7 +21,7 @@ pub enum Came {
 pub enum Passed {
     /// It has done so.
     Done,
-    /// They couldn't be read. The inlet has counted a fault.
+    /// They couldn't be read, and of what the inlet tells none was taken. It has counted a fault.
     Failed,
 }
 

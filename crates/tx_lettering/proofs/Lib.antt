@@ -3,3 +3,4 @@ pub mod Loads
 pub mod Collects
 pub mod Signs
 pub mod Learning
+pub mod Accenting

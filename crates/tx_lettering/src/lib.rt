@@ -6,15 +6,17 @@
 //! What touches a part or two of the state takes these, and its contract tells what comes of any state that has them: a signature
 //! with the whole state is dear to prove.
 //!
-//! Read `letters`, `hyphens`, `words`, `fonts` and `texts`.
+//! Read `letters`, `hyphens`, `words`, `accents`, `fonts` and `texts`.
 #![tactic(auto)]
 
+mod accents;
 mod fonts;
 mod hyphens;
 mod letters;
 mod texts;
 mod words;
 
+pub use accents::{begin_accent, end_accent, set_below};
 pub use fonts::{
     define_font, find_font, load_font, set_dimension, set_family, set_integer, with_file,
 };

@@ -9,6 +9,9 @@ use Rattle.tx_box.specs.declared.parts.Lists.{Lists}
 use Rattle.tx_box.specs.Sources.{appended}
 use Rattle.tx_reading.specs.declared.single.AtOnce.TheVariants as at_once
 use Rattle.tx_command.specs.declared.types.Command.TheVariants as command
+use Rattle.tx_command.specs.declared.types.Head.{Head}
+use Rattle.tx_command.specs.declared.types.Head.TheVariants.{Fresh}
+use Rattle.tx_command.specs.Commands.{delimiting_before, is_accenting}
 use Rattle.tx_expand.specs.Expanding.{reader}
 use Rattle.tx_nest.specs.Changed.{with_nodes}
 use Rattle.tx_nest.specs.Lending.{with_top}
@@ -33,7 +36,7 @@ use Rattle.tx_turn.specs.Turns.{outcome, taking}
 use Rattle.tx_turn.proofs.MainLoop.{alone-set, alone-space, awaits-behind, behind, gone, meaning-set, reads-character, seen, set-goes-on, takes-alone}
 use Rattle.tx_lettering.specs.Words.{before_token, collecting_into, current_font, factor_now, factored, gluing, in_paragraph, space_code, spacing, with_more, word_ended, word_params}
 use Rattle.tx_lettering.proofs.Collects.{collected_by}
-use Rattle.tx_main.specs.Effects.{character_in, effect}
+use Rattle.tx_main.specs.Effects.{character_by, character_in, effect}
 use Rattle.tx_main.specs.MainLoop.{IsLetterNext, IsSpaceNext, lettered, spaced}
 use Rattle.tx_main.specs.Turns.{tex_effects}
 
@@ -57,9 +60,10 @@ appended-none lists = ap (λ (nodes : List Item). record lists { nest = with_top
 abbrev set_by : TexState → Bool → ℕ → ℕ → ℕ → Outcome
 set_by s there font factor code = collecting_into s code (collected_by there s.words (in_paragraph s) font code) (factor_behind factor (space_code s.table.table code))
 
-sets : (s : TexState) (font factor code : ℕ) → font ≡ current_font s.table.table → factor_now s ≡ Some factor → has_character s.words.fonts (font_of s.words.word font) code ≡ true → effect s (command.Character code) ≡ set_by s true font factor code
-sets s font factor code is_font has_factor has =
-    ap (character_in s code) has_factor
+sets : (s : TexState) (font factor code : ℕ) → s.head ≡ Fresh → font ≡ current_font s.table.table → factor_now s ≡ Some factor → has_character s.words.fonts (font_of s.words.word font) code ≡ true → effect s (command.Character code) ≡ set_by s true font factor code
+sets s font factor code fresh is_font has_factor has =
+    ap (λ (head : Head). character_by s code (is_accenting head) (delimiting_before head)) fresh
+    ∙ ap (character_in s code) has_factor
     ∙ (λ i. collecting_into s code (collected s.words (in_paragraph s) (sym is_font i) code) (factor_behind factor (space_code s.table.table code)))
     ∙ ap (λ (there : Bool). set_by s there font factor code) has
 
@@ -75,7 +79,7 @@ letter-goes s font factor code awaits is_font has_factor next =
     reads-character tex_effects s left code kind awaits (meaning-set s.table.table code kind next.comes.set) (set-goes-on kind next.comes.set) next.comes.next
     ∙ ap (λ (t : TexState). taking tex_effects t (seen code kind)) (stays (behind s left) code kind (awaits-behind s left awaits) next.comes.set)
     ∙ takes-alone tex_effects (behind s left) code kind (at_once.Character code) (awaits-behind s left awaits) (alone-set s.mode code kind awaits.horizontal next.comes.set)
-    ∙ sets (behind s left) font factor code is_font has_factor next.has
+    ∙ sets (behind s left) font factor code awaits.head is_font has_factor next.has
     ∙ set-behind s font factor code awaits.begun
 
 -- what comes of a space there

@@ -8,8 +8,9 @@ use Rattle.tx_node.specs.declared.plain.LeadersKind.{LeadersKind as ItemLeaders}
 use Rattle.tx_node.specs.declared.plain.LeadersKind.TheVariants as item_leaders
 use Rattle.tx_node.specs.declared.rule.Rule.{Rule as ARule}
 use Rattle.tx_num.specs.Glue.{GlueSpec}
-use Rattle.tx_node.specs.Items.{plain, shared}
+use Rattle.tx_node.specs.Items.{plain, shared, leaders_item, PackedBox}
 use Rattle.tx_mlist.specs.declared.plain.PlainNoad.TheVariants as noad
+use Rattle.tx_mlist.specs.Building.{plain_head}
 use Rattle.tx_mlist.specs.Items.{small as small_noad}
 use Rattle.tx_nest.specs.Grafs.{graf_of}
 use Rattle.tx_eqtb.specs.declared.groups.GroupKind.{GroupKind}
@@ -30,20 +31,23 @@ use Rattle.tx_assign.specs.declared.types.Change.TheVariants.{Set, Compute, Add,
 use Rattle.tx_assign.specs.Changes.{carried_out, relaxed}
 use Rattle.tx_tfm.specs.Fonts.{with_font_integer, with_font_parameter}
 use Rattle.tx_command.specs.declared.types.Command.{Command}
-use Rattle.tx_command.specs.declared.types.Command.TheVariants.{Nothing, Space, ControlSpace, Character, ItalicCorrection, Indent, InsertPar, EndParagraph, DiscretionaryHyphen, SetFactor, SetPrevGraf, BeginShape, Open, SetDeadCycles, SetPage, SplitBox, DefineFont, LoadFont, SetFontDimen, SetFontInteger, BeginGroup, EndGroup, BeginSemiSimple, EndSemiSimple, Prefix, Define, Assign, Sized, Rule, BeginBox, UseBox, CopyBox, LastBox, Unbox, Penalize, Remove, Skip, BeginLeaders, SetDepth, End, Interact, DefineMacro, BeginText, DefineFuture, Keep, MathShift, BeginFormula, Script, MathCharacter, BeginAtom, SetLimits, SetStyle, BeginChoice, BeginFraction, MathSkip, Nonscript, SetFamily, Align, BeginAlign, ExpandOnce, Template, BeginEntry, EndAlign}
-use Rattle.tx_command.specs.declared.types.Head.TheVariants.{Fresh, Prefixed, Defining, Future, Leading}
+use Rattle.tx_command.specs.declared.types.Command.TheVariants.{Nothing, Space, ControlSpace, Character, ItalicCorrection, Indent, InsertPar, EndParagraph, DiscretionaryHyphen, SetFactor, SetPrevGraf, BeginShape, Open, SetDeadCycles, SetPage, SplitBox, DefineFont, LoadFont, SetFontDimen, SetFontInteger, BeginGroup, EndGroup, BeginSemiSimple, EndSemiSimple, Prefix, Define, Assign, Sized, Rule, BeginBox, UseBox, CopyBox, LastBox, Unbox, Penalize, Remove, Skip, BeginLeaders, SetDepth, End, Interact, DefineMacro, BeginText, DefineFuture, Keep, MathShift, BeginFormula, BeginDisplay, EndDisplay, GoOn, BeginNumber, Script, MathCharacter, BeginAtom, SetLimits, SetStyle, BeginChoice, BeginFraction, BeginDelimited, Coded, BeginAccent, EndAccent, MathSkip, Nonscript, SetFamily, Align, BeginAlign, ExpandOnce, Template, BeginEntry, EndAlign}
+use Rattle.tx_command.specs.declared.types.Delimiting.{Delimiting}
+use Rattle.tx_command.specs.declared.types.Head.{Head}
+use Rattle.tx_command.specs.declared.types.Head.TheVariants.{Accenting, Fresh, Prefixed, Defining, Future, Leading}
 use Rattle.tx_command.specs.declared.types.SizeUse.TheVariants.{Item, Shape}
 use Rattle.tx_command.specs.declared.types.Prefixes.{Prefixes}
-use Rattle.tx_command.specs.Commands.{is_preamble, leaders_before, part_before, prefixes_of}
+use Rattle.tx_command.specs.Commands.{box_before, delimiters_before, delimiting_before, is_accenting, is_preamble, leaders_before, part_before, prefixes_of}
 use Rattle.tx_galley.specs.Ending.{is_done}
 use Rattle.tx_galley.specs.Assigning.{setting}
 use Rattle.tx_shape.specs.declared.types.Opener.TheVariants as opener
-use Rattle.tx_building.specs.Building.{built}
+use Rattle.tx_building.specs.Building.{built, built_outside}
 use Rattle.tx_state.specs.Ended.{adding, assigned, assigning, naming}
 use Rattle.tx_state.specs.State.{TexState}
 use Rattle.tx_state.specs.Texts.{definition_text}
 use Rattle.tx_state.specs.Outcomes.{Outcome, leaves}
 use Rattle.tx_lettering.specs.Words.{breaking, collecting, control_spacing, correcting, factor_now, setting_factor_of, spacing}
+use Rattle.tx_lettering.specs.Accents.{accenting, beginning_accent, ending_accent}
 use Rattle.tx_lettering.specs.Fonts.{asking_font, defining_font, number_of, setting_family, setting_fonts}
 use Rattle.tx_lettering.specs.Texts.{beginning_text, in_list}
 use Rattle.tx_boxing.specs.Breaks.{beginning_break}
@@ -54,6 +58,8 @@ use Rattle.tx_grouping.specs.Paragraphs.{ending_paragraph, indenting_so, inserti
 use Rattle.tx_state.specs.Groups.{opening}
 use Rattle.tx_formula.specs.Atoms.{beginning_atom, beginning_choice, dividing, limiting, scripting}
 use Rattle.tx_formula.specs.Characters.{setting_character, setting_number}
+use Rattle.tx_formula.specs.Delimiters.{awaiting, coding, delimiting_character, lining}
+use Rattle.tx_formula.specs.Displays.{beginning_display, beginning_number, ending_display, going_on_behind}
 use Rattle.tx_formula.specs.Groups.{ending_choice, ending_part, grouping, opening_formula}
 use Rattle.tx_formula.specs.Kinds.{style_of, thickness_of}
 use Rattle.tx_formula.specs.Noads.{adding_noad}
@@ -68,8 +74,12 @@ with_prefix prefixes Global = record prefixes { global = true }
 with_prefix prefixes Long = record prefixes { long = true }
 with_prefix prefixes Outer = record prefixes { outer = true }
 
+-- what stands before the command behind prefixes: an accent that waits stands before them
+abbrev pub behind_prefixes : Head → Prefixes → Head
+behind_prefixes head prefixes = if is_accenting head then Accenting prefixes else Prefixed prefixes
+
 abbrev pub prefixing : TexState → APrefix → Outcome
-prefixing s prefix = leaves (record s { head = Prefixed (with_prefix (prefixes_of s.head) prefix) })
+prefixing s prefix = leaves (record s { head = behind_prefixes s.head (with_prefix (prefixes_of s.head) prefix) })
 
 -- an assignment, by its change
 abbrev pub assigning_now : TexState → Assignment → Change → Outcome
@@ -97,9 +107,13 @@ spread leaders.Aligned = item_leaders.Aligned
 spread leaders.Centered = item_leaders.Centered
 spread leaders.Expanded = item_leaders.Expanded
 
--- glue, or leaders where they stand before it (section 1078)
+-- glue, or leaders of a rule or of a box where they stand before it (section 1078)
+abbrev pub skipping_by_box : TexState → GlueSpec → Option (LeadersKind × PackedBox) → Outcome
+skipping_by_box s g None = adding s (plain (small.Glue g))
+skipping_by_box s g (Some (kind, b)) = adding (record s { head = Fresh }) (leaders_item (record { kind = spread kind; glue = g }) b)
+
 abbrev pub skipping : TexState → GlueSpec → Option (LeadersKind × ARule) → Outcome
-skipping s g None = adding s (plain (small.Glue g))
+skipping s g None = skipping_by_box s g (box_before s.head)
 skipping s g (Some (kind, rule)) = adding (record s { head = Fresh }) (shared (large.Leaders (record { kind = spread kind; glue = g; rule = rule })))
 
 -- a character of a horizontal list, and of a formula
@@ -107,9 +121,19 @@ abbrev pub character_in : TexState → ℕ → Option ℕ → Outcome
 character_in s code None = setting_character s code
 character_in s code (Some factor) = collecting s code factor
 
+-- but it stands below an accent that waits, and is the delimiter that is awaited
+abbrev pub character_by : TexState → ℕ → Bool → Option Delimiting → Outcome
+character_by s code true awaited = accenting s code
+character_by s code false (Some what) = delimiting_character s code what
+character_by s code false None = character_in s code (factor_now s)
+
+abbrev pub character_set : TexState → ℕ → Outcome
+character_set s code = character_by s code (is_accenting s.head) (delimiting_before s.head)
+
 -- a begin-group token, which in a formula begins a list of its own (sections 1063 and 1150)
 abbrev pub beginning_group : TexState → Mode → Outcome
 beginning_group s mode.Math = grouping s (part_before s.head)
+beginning_group s mode.DisplayMath = grouping s (part_before s.head)
 beginning_group s other = opening s kind.Simple s
 
 -- an end-group token, by the kind of the innermost group
@@ -123,7 +147,7 @@ abbrev pub effect : TexState → Command → Outcome
 effect s Nothing = leaves s
 effect s Space = spacing s (factor_now s)
 effect s ControlSpace = control_spacing s
-effect s (Character code) = character_in s code (factor_now s)
+effect s (Character code) = character_set s code
 effect s ItalicCorrection = correcting s (factor_now s)
 effect s (Indent how) = indenting_so s how
 effect s InsertPar = leaves (inserting_par s)
@@ -135,13 +159,21 @@ effect s BeginSemiSimple = opening s kind.SemiSimple s
 effect s EndSemiSimple = ending_semi_simple s (kind_of s.table)
 effect s MathShift = shifting s
 effect s BeginFormula = beginning_formula s
+effect s BeginDisplay = built_outside (beginning_display s)
+effect s EndDisplay = ending_display s
+effect s GoOn = built_outside (going_on_behind s)
+effect s (BeginNumber side) = beginning_number s side
 effect s (Script part) = scripting s part
 effect s (MathCharacter n) = setting_number s n
 effect s (BeginAtom class) = beginning_atom s class
 effect s (SetLimits kind) = limiting s kind
 effect s (SetStyle style) = adding_noad s (small_noad (noad.Style (style_of style)))
 effect s BeginChoice = beginning_choice s
-effect s (BeginFraction kind) = dividing s (thickness_of kind)
+effect s (BeginFraction kind) = dividing s (plain_head (thickness_of kind))
+effect s (BeginDelimited what) = awaiting s what
+effect s (Coded kind n) = coding s kind n
+effect s (BeginAccent code) = beginning_accent s code
+effect s EndAccent = ending_accent s
 effect s (MathSkip g) = adding_noad s (small_noad (noad.Glue g))
 effect s Nonscript = adding_noad s (small_noad noad.Nonscript)
 effect s (SetFamily size family font) = setting_family s size family font
@@ -150,7 +182,7 @@ effect s (Define defined kind) = naming s (Defining (prefixes_of s.head) defined
 effect s (Assign a) = assigning_in (is_preamble s.head) s a
 effect s (Sized (Item Kern) size) = adding s (plain (small.Kern Explicit size))
 effect s (Sized (Item MathKern) size) = adding_noad s (small_noad (noad.Kern size))
-effect s (Sized (Item Above) size) = dividing s (Some size)
+effect s (Sized (Item Above) size) = lining s size (delimiters_before s.head)
 effect s (Sized Shape size) = shape_sized s size s.head
 effect s (Rule kind rule) = ruling s rule
 effect s (Penalize n) = built (adding s (plain (small.Penalty n)))

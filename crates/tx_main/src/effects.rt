@@ -1,44 +1,122 @@
 //! What each command does, once it is whole (TeX: The Program, parts 45 to 49).
-ghost use Rattle.std.specs.Prelude.{◌≡◌, [], IfOk};
-ghost use Rattle.tx_lettering.specs.Words.{factor_now as factor_of_list};
+ghost use Rattle.std.specs.Prelude.{◌≡◌, [], if◌then◌else◌, IfOk};
+ghost use Rattle.tx_command.specs.Commands.{box_before, leaders_before};
 ghost use Rattle.tx_eqtb.specs.Stack.{kind_of};
 ghost use Rattle.tx_main.specs.Effects as effects;
+ghost use Rattle.tx_node.specs.Nodes.{item_of};
+ghost use Rattle.tx_state.specs.Ended.{adding};
 ghost use Rattle.tx_state.specs.Meanings.{IsStepped, state_of};
 
-use std::alloc::{AllocError, Global};
-use tx_aligning::{
-    align, begin_align, begin_entry, begin_noalign, end_align, expand_next, feed_template,
-    set_tabskip,
-};
-use tx_assign::{Assignment, Carried, relaxed};
-use tx_boxing::{
-    add_rule, begin_break, begin_vertical_list, copy_box, end_run, open_box, remove,
-    set_dead_cycles, set_depth, set_page, split, take_box, unbox, use_box,
-};
-use tx_building::{build_behind, build_here};
+use std::alloc::AllocError;
+use std::alloc::Global;
+use tx_aligning::align;
+use tx_aligning::begin_align;
+use tx_aligning::begin_entry;
+use tx_aligning::begin_noalign;
+use tx_aligning::end_align;
+use tx_aligning::expand_next;
+use tx_aligning::feed_template;
+use tx_aligning::set_tabskip;
+use tx_assign::Assignment;
+use tx_assign::Carried;
+use tx_assign::relaxed;
+use tx_boxing::add_rule;
+use tx_boxing::begin_break;
+use tx_boxing::begin_vertical_list;
+use tx_boxing::copy_box;
+use tx_boxing::end_run;
+use tx_boxing::open_box;
+use tx_boxing::remove;
+use tx_boxing::set_dead_cycles;
+use tx_boxing::set_depth;
+use tx_boxing::set_page;
+use tx_boxing::split;
+use tx_boxing::take_box;
+use tx_boxing::unbox;
+use tx_boxing::use_box;
+use tx_building::build_behind;
+use tx_building::build_here;
+use tx_building::build_outside_behind;
 use tx_char::Token;
-use tx_command::{Command, CommandScan, Head, Prefixes, SizeUse};
-use tx_eqtb::{Eqtb, GroupKind};
+use tx_command::Command;
+use tx_command::CommandScan;
+use tx_command::Head;
+use tx_command::Prefixes;
+use tx_command::SizeUse;
+use tx_eqtb::Eqtb;
+use tx_eqtb::GroupKind;
 use tx_event::Event;
-use tx_formula::{
-    add_noad, begin_atom, begin_choice, begin_script, divide, end_choice, end_part, open_formula,
-    set_limits, set_number, shift, style_of, thickness_of,
-};
-use tx_grouping::{
-    add_size, begin_shape, end_paragraph, end_semi_simple, indent, insert_par, set_graf,
-};
-use tx_lettering::{
-    begin_list, begin_text, break_word, collect, control_space, correct_italic, define_font,
-    define_macro, factor_now, find_font, set_dimension, set_factor, set_family, set_integer, space,
-};
-use tx_mlist::{Noad, PlainNoad};
+use tx_formula::add_noad;
+use tx_formula::await_delimiter;
+use tx_formula::begin_atom;
+use tx_formula::begin_choice;
+use tx_formula::begin_script;
+use tx_formula::divide;
+use tx_formula::divide_sized;
+use tx_formula::end_choice;
+use tx_formula::end_part;
+use tx_formula::go_on_behind_display;
+use tx_formula::open_formula;
+use tx_formula::set_coded;
+use tx_formula::set_delimiter;
+use tx_formula::set_limits;
+use tx_formula::set_number;
+use tx_formula::shift;
+use tx_formula::style_of;
+use tx_formula::thickness_of;
+use tx_grouping::add_size;
+use tx_grouping::begin_shape;
+use tx_grouping::end_paragraph;
+use tx_grouping::end_semi_simple;
+use tx_grouping::indent;
+use tx_grouping::insert_par;
+use tx_grouping::set_graf;
+use tx_lettering::begin_accent;
+use tx_lettering::begin_list;
+use tx_lettering::begin_text;
+use tx_lettering::break_word;
+use tx_lettering::collect;
+use tx_lettering::control_space;
+use tx_lettering::correct_italic;
+use tx_lettering::define_font;
+use tx_lettering::define_macro;
+use tx_lettering::end_accent;
+use tx_lettering::factor_now;
+use tx_lettering::find_font;
+use tx_lettering::set_below;
+use tx_lettering::set_dimension;
+use tx_lettering::set_factor;
+use tx_lettering::set_family;
+use tx_lettering::set_integer;
+use tx_lettering::space;
+use tx_mlist::Noad;
+use tx_mlist::PlainNoad;
+use tx_mlist::plain_head;
 use tx_nest::append_item;
-use tx_node::{KernKind, Leaders, Node, Plain, Rule, Shared};
+use tx_node::KernKind;
+use tx_node::Leaders;
+use tx_node::LeadersHead;
+use tx_node::Node;
+use tx_node::Plain;
+use tx_node::Rule;
+use tx_node::Shared;
 use tx_num::Glue;
-use tx_prim::{AfterKind, LeadersKind, Mode, Prefix, Shorthand, SizeKind};
+use tx_prim::AfterKind;
+use tx_prim::LeadersKind;
+use tx_prim::Mode;
+use tx_prim::Prefix;
+use tx_prim::Shorthand;
+use tx_prim::SizeKind;
 use tx_seen::Place;
 use tx_shape::Opener;
-use tx_state::{KeptToken, Phase, State, add, carry_out_assignment, end_assignment, fail, open};
+use tx_state::KeptToken;
+use tx_state::Phase;
+use tx_state::State;
+use tx_state::add;
+use tx_state::carry_out_assignment;
+use tx_state::end_assignment;
+use tx_state::fail;
+use tx_state::open;
 
 /// The prefixes with one more.
 fn with_prefix(prefixes: Prefixes, prefix: Prefix) -> Prefixes
@@ -60,13 +138,25 @@ fn with_prefix(prefixes: Prefixes, prefix: Prefix) -> Prefixes
     }
 }
 
+/// What stands before the command behind these prefixes, which an accent that waits stands before.
+fn head_behind(accents: bool, prefixes: Prefixes) -> Head
+    ensures { result ≡ (if accents then Head.Accenting prefixes else Head.Prefixed prefixes) }
+{
+    if accents {
+        Head::Accenting(prefixes)
+    } else {
+        Head::Prefixed(prefixes)
+    }
+}
+
 /// A prefix.
 pub(crate) fn prefix(scan: &mut CommandScan, prefix: Prefix) -> Event
     requires { scan.old.taken ≡ [] }
     ensures { (s : State) → s.phase ≡ Phase.Running → IsStepped (effects.effect (state_of (record s { scan = scan.old })) (Command.Prefix prefix)) (record s { scan = scan.old }) result (record s { scan = scan.new }) }
 {
     let prefixes = with_prefix(scan.prefixes(), prefix);
-    scan.begin_behind(Head::Prefixed(prefixes));
+    let head = head_behind(scan.is_accenting(), prefixes);
+    scan.begin_behind(head);
     Event::Went
 }
 
@@ -153,7 +243,7 @@ fn use_size(alloc: Global, s: &mut State, size_use: SizeUse, size: i32) -> Resul
         SizeUse::Item(SizeKind::MathKern) => {
             add_noad(alloc, s, Noad::Plain(PlainNoad::Kern(size)))
         }
-        SizeUse::Item(SizeKind::Above) => divide(alloc, s, Some(size)),
+        SizeUse::Item(SizeKind::Above) => divide_sized(alloc, s, size),
         SizeUse::Shape => add_size(alloc, s, size),
     }
 }
@@ -169,21 +259,46 @@ fn spread(kind: LeadersKind) -> tx_node::LeadersKind
     }
 }
 
+/// What glue is where no leaders of a rule stand before it, but perhaps those of a box, which are used up then. Its only error is
+/// want of memory.
+fn box_skip(alloc: Global, scan: &mut CommandScan, glue: Glue) -> Result<Node, AllocError>
+    requires { scan.old.taken ≡ [] }
+    ensures { (s : State) → IfOk result (λ node. effects.skipping_by_box (state_of (record s { scan = scan.old })) glue (box_before scan.old.head) ≡ adding (state_of (record s { scan = scan.new })) (item_of node)) }
+{
+    match scan.box_leaders()? {
+        None => Ok(Node::Plain(Plain::Glue(glue))),
+        Some((kind, repeated)) => {
+            let kind = spread(kind);
+            scan.begin_fresh();
+            Node::from_box_leaders(alloc, LeadersHead { kind, glue }, repeated)
+        }
+    }
+}
+
+/// What glue is: itself, or leaders where they stand before it, which are used up then. Its only error is want of memory.
+fn skipped(alloc: Global, scan: &mut CommandScan, glue: Glue) -> Result<Node, AllocError>
+    requires { scan.old.taken ≡ [] }
+    ensures { (s : State) → IfOk result (λ node. effects.skipping (state_of (record s { scan = scan.old })) glue (leaders_before scan.old.head) ≡ adding (state_of (record s { scan = scan.new })) (item_of node)) }
+{
+    match scan.leaders() {
+        None => box_skip(alloc, scan, glue),
+        Some((kind, rule)) => {
+            let kind = spread(kind);
+            let leaders = Shared::Leaders(Leaders { kind, glue, rule });
+            scan.begin_fresh();
+            Node::from_shared(alloc, leaders)
+        }
+    }
+}
+
 /// \hskip or its kin: glue is appended, or leaders where they stand before it. Its only error is want of memory.
 fn skip(alloc: Global, s: &mut State, glue: Glue) -> Result<Event, AllocError>
     requires running { s.old.phase ≡ Phase.Running }
     requires between { s.old.scan.taken ≡ [] }
     ensures { IfOk result (λ event. IsStepped (effects.effect (state_of s.old) (Command.Skip glue)) s.old event s.new) }
 {
-    match s.scan.leaders() {
-        None => add(s, Node::Plain(Plain::Glue(glue))),
-        Some((kind, rule)) => {
-            let kind = spread(kind);
-            let leaders = Shared::Leaders(Leaders { kind, glue, rule });
-            s.scan.begin_fresh();
-            add(s, Node::from_shared(alloc, leaders)?)
-        }
-    }
+    let node = skipped(alloc, &mut s.scan, glue)?;
+    add(s, node)
 }
 
 /// \leaders or its kin and the rule that they repeat: glue is to follow.
@@ -219,13 +334,19 @@ fn open_by(alloc: Global, s: &mut State, opener: Opener) -> Result<Event, AllocE
     }
 }
 
-/// A character of a horizontal list, or of a formula.
+/// A character: below an accent that waits, the delimiter that is awaited, or one of a horizontal list, or of a formula.
 #[inline(always)]
 pub(crate) fn set_character(alloc: Global, s: &mut State, code: u8) -> Result<Event, AllocError>
     requires running { s.old.phase ≡ Phase.Running }
     requires between { s.old.scan.taken ≡ [] }
-    ensures { IfOk result (λ event. IsStepped (effects.character_in (state_of s.old) code (factor_of_list (state_of s.old))) s.old event s.new) }
+    ensures { IfOk result (λ event. IsStepped (effects.character_set (state_of s.old) code) s.old event s.new) }
 {
+    if s.scan.is_accenting() {
+        return set_below(alloc, s, code);
+    }
+    if let Some(what) = s.scan.delimiting() {
+        return set_delimiter(alloc, s, code, what);
+    }
     match factor_now(s) {
         Some(factor) => collect(alloc, s, factor, code),
         None => tx_formula::set_character(alloc, s, code),
@@ -239,7 +360,7 @@ pub(crate) fn begin_group(alloc: Global, s: &mut State) -> Result<Event, AllocEr
     ensures { IfOk result (λ event. IsStepped (effects.beginning_group (state_of s.old) s.old.scan.mode) s.old event s.new) }
 {
     match s.scan.mode() {
-        Mode::Math => tx_formula::begin_group(alloc, s),
+        Mode::Math | Mode::DisplayMath => tx_formula::begin_group(alloc, s),
         _ => open(s, GroupKind::Simple),
     }
 }
@@ -266,6 +387,25 @@ fn end_alignment(alloc: Global, s: &mut State) -> Result<Event, AllocError>
     build_behind(alloc, s, event)
 }
 
+/// `$$` in a paragraph, behind which the page builder is exercised.
+fn start_display(alloc: Global, s: &mut State) -> Result<Event, AllocError>
+    requires { s.old.phase ≡ Phase.Running }
+    ensures { IfOk result (λ event. IsStepped (effects.effect (state_of s.old) Command.BeginDisplay) s.old event s.new) }
+{
+    let event = tx_formula::begin_display(alloc, s)?;
+    build_outside_behind(alloc, s, event)
+}
+
+/// A paragraph goes on behind a display, and the page builder is exercised.
+fn resume(alloc: Global, s: &mut State) -> Result<Event, AllocError>
+    requires running { s.old.phase ≡ Phase.Running }
+    requires between { s.old.scan.taken ≡ [] }
+    ensures { IfOk result (λ event. IsStepped (effects.effect (state_of s.old) Command.GoOn) s.old event s.new) }
+{
+    let event = go_on_behind_display(&mut s.scan);
+    build_outside_behind(alloc, s, event)
+}
+
 /// Carries out a command. Its only error is want of memory.
 #[inline(never)]
 fn carry_out(alloc: Global, s: &mut State, command: Command) -> Result<Event, AllocError>
@@ -288,16 +428,26 @@ fn carry_out(alloc: Global, s: &mut State, command: Command) -> Result<Event, Al
         Command::BeginSemiSimple => open(s, GroupKind::SemiSimple),
         Command::EndSemiSimple => end_semi_simple(s),
         Command::MathShift => shift(alloc, s),
-        Command::BeginFormula => tx_formula::begin_text(alloc, s),
+        Command::BeginFormula => tx_formula::begin_text(alloc, s, GroupKind::MathShift),
+        Command::BeginDisplay => start_display(alloc, s),
+        Command::EndDisplay => tx_formula::end_display(alloc, s),
+        Command::GoOn => resume(alloc, s),
+        Command::BeginNumber(side) => tx_formula::begin_number(alloc, s, side),
         Command::Script(part) => begin_script(alloc, s, part),
         Command::MathCharacter(number) => set_number(alloc, s, number),
-        Command::BeginAtom(class) => begin_atom(alloc, s, class),
+        Command::BeginAtom(class) => begin_atom(alloc, &mut s.lists, &mut s.scan, class),
         Command::SetLimits(kind) => set_limits(alloc, s, kind),
         Command::SetStyle(style) => {
             add_noad(alloc, s, Noad::Plain(PlainNoad::Style(style_of(style))))
         }
         Command::BeginChoice => begin_choice(alloc, s),
-        Command::BeginFraction(kind) => divide(alloc, s, thickness_of(kind)),
+        Command::BeginFraction(kind) => divide(alloc, s, plain_head(thickness_of(kind))),
+        Command::BeginDelimited(what) => Ok(await_delimiter(&mut s.scan, what)),
+        Command::Coded(kind, number) => set_coded(alloc, s, kind, number),
+        Command::BeginAccent(code) => {
+            begin_accent(&mut s.said, &s.table, &mut s.words, &mut s.scan, code)
+        }
+        Command::EndAccent => end_accent(alloc, &mut s.words, &mut s.scan, &mut s.lists),
         Command::MathSkip(glue) => add_noad(alloc, s, Noad::Plain(PlainNoad::Glue(glue))),
         Command::Nonscript => add_noad(alloc, s, Noad::Plain(PlainNoad::Nonscript)),
         Command::SetFamily(size, family, font) => set_family(s, size, family, font),

@@ -10,7 +10,7 @@ use Rattle.tx_node.specs.declared.plain.Plain.{Plain}
 use Rattle.tx_node.specs.declared.plain.Plain.TheVariants.{Kern, Glue, Penalty, Character}
 use Rattle.tx_node.specs.declared.plain.Shared.TheVariants.{Rule}
 use Rattle.tx_node.specs.Counts.{nesting_of}
-use Rattle.tx_node.specs.Items.{Item, plain, shared, boxed, discretionary, adjustment, insertion, Items, none, more, PackedBox, items_of, box_item}
+use Rattle.tx_node.specs.Items.{Item, plain, shared, boxed, discretionary, adjustment, insertion, box_leaders, Items, none, more, PackedBox, items_of, box_item}
 use Rattle.tx_pack.specs.declared.types.Goal.TheVariants.{Natural, To}
 use Rattle.tx_pack.specs.declared.types.Packed.{Packed}
 use Rattle.tx_pack.specs.declared.types.PackError.{PackError}
@@ -103,6 +103,7 @@ unshifted (boxed shift head inner) = if is_nothing shift then Some (record { hea
 unshifted (discretionary head before behind) = None
 unshifted (adjustment inner) = None
 unshifted (insertion head inner) = None
+unshifted (box_leaders head repeated inner) = None
 
 abbrev pub lone_box : List Item → Option PackedBox
 lone_box [] = None
@@ -134,6 +135,7 @@ is_plain test (boxed shift head inner) = false
 is_plain test (discretionary head before behind) = false
 is_plain test (adjustment inner) = false
 is_plain test (insertion head inner) = false
+is_plain test (box_leaders head repeated inner) = false
 
 -- a character and a kern behind it, which is its italic correction, lose the kern; their box keeps its width (section 721)
 abbrev pub is_corrected : List Item → Bool
@@ -167,6 +169,7 @@ item_character_width (boxed shift head inner) = None
 item_character_width (discretionary head before behind) = None
 item_character_width (adjustment inner) = None
 item_character_width (insertion head inner) = None
+item_character_width (box_leaders head repeated inner) = None
 
 abbrev pub lone_character_width : List Item → Option ℤ
 lone_character_width [] = None

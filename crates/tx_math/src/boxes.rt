@@ -206,6 +206,7 @@ fn unshifted(node: &Node) -> Result<Option<BoxNode>, AllocError>
         }
         Node::Plain(_) | Node::Shared(_) => Ok(None),
         Node::Discretionary(_) | Node::Adjustment(_) | Node::Insertion(_) => Ok(None),
+        Node::BoxLeaders(_) => Ok(None),
     }
 }
 

@@ -33,6 +33,7 @@ fn character_width(node: &Node) -> Option<i32>
         Node::Plain(Plain::Kern(_, _) | Plain::Glue(_) | Plain::Penalty(_)) => None,
         Node::Shared(_) | Node::Box(_, _) => None,
         Node::Discretionary(_) | Node::Adjustment(_) | Node::Insertion(_) => None,
+        Node::BoxLeaders(_) => None,
     }
 }
 

@@ -57,6 +57,7 @@ fn node_reach(node: &Node) -> Reach
             depth: plus(i64::from(inner.depth()), i64::from(*shift)),
         },
         Node::Discretionary(_) | Node::Adjustment(_) | Node::Insertion(_) => no_reach(),
+        Node::BoxLeaders(_) => no_reach(),
     }
 }
 

@@ -3,7 +3,7 @@ use Rattle.std.proofs.Common.{◌≡◌, ◌∙◌, ℕ, zero, suc, ◌-◌, ◌
 use Rattle.std.specs.Prelude.{◌&&◌, ◌||◌, nat_lt, nat_le}
 use Rattle.std.proofs.lemmas.List.{length-map, drop-map}
 use Rattle.tx_node.specs.declared.node.Node.{Node}
-use Rattle.tx_node.specs.Items.{Item, plain, shared, boxed, discretionary, adjustment, insertion}
+use Rattle.tx_node.specs.Items.{Item, plain, shared, boxed, discretionary, adjustment, insertion, box_leaders}
 use Rattle.tx_node.specs.Nodes.{item_of, list_of}
 use Rattle.tx_nest.specs.Lasts.{reaches, is_replaced}
 
@@ -18,6 +18,7 @@ far distance (boxed shift head inner) h = refl
 far distance (discretionary head pre post) h = past distance (nat_lt 0 distance) (nat_le distance head.replaced) h
 far distance (adjustment inner) h = refl
 far distance (insertion head inner) h = refl
+far distance (box_leaders head repeated inner) h = refl
 
 near-items : (n : ℕ) (list : List Item) → n ≤ length list - 256 → is_replaced (drop n list) ≡ is_replaced list
 near-items zero list h = refl

@@ -4,10 +4,10 @@ use Rattle.tx_num.specs.Glue.{GlueSpec, glue_of}
 use Rattle.tx_prim.specs.declared.family.ItemKind.{ItemKind}
 use Rattle.tx_prim.specs.declared.family.ItemKind.TheVariants as kind
 use Rattle.tx_node.specs.declared.plain.KernKind.{KernKind}
-use Rattle.tx_node.specs.declared.plain.KernKind.TheVariants.{Implicit, Explicit, MathOn, MathOff}
+use Rattle.tx_node.specs.declared.plain.KernKind.TheVariants.{Accent, Implicit, Explicit, MathOn, MathOff}
 use Rattle.tx_node.specs.declared.plain.Plain.{Plain}
 use Rattle.tx_node.specs.declared.plain.Plain.TheVariants.{Kern, Glue, Penalty, Character}
-use Rattle.tx_node.specs.Items.{Item, Items, none, more, plain, shared, boxed, discretionary, adjustment, insertion, PackedBox}
+use Rattle.tx_node.specs.Items.{Item, Items, none, more, plain, shared, boxed, discretionary, adjustment, insertion, box_leaders, PackedBox}
 use Rattle.tx_node.specs.Sizes.{glue_of_item}
 
 -- the last item, None where the list is empty
@@ -28,9 +28,11 @@ penalty_of (boxed shift head inner) = None
 penalty_of (discretionary replaced pre post) = None
 penalty_of (adjustment inner) = None
 penalty_of (insertion inserted inner) = None
+penalty_of (box_leaders head repeated inner) = None
 
 abbrev pub kern_size : KernKind → ℤ → Option ℤ
 kern_size Implicit size = Some size
+kern_size Accent size = Some size
 kern_size Explicit size = Some size
 kern_size MathOn size = None
 kern_size MathOff size = None
@@ -48,6 +50,7 @@ kern_of (boxed shift head inner) = None
 kern_of (discretionary replaced pre post) = None
 kern_of (adjustment inner) = None
 kern_of (insertion inserted inner) = None
+kern_of (box_leaders head repeated inner) = None
 
 abbrev pub list_from : Items → List Item
 list_from none = []
@@ -60,6 +63,7 @@ box_of (boxed shift head inner) = Some (record { head = head; list = list_from i
 box_of (discretionary replaced pre post) = None
 box_of (adjustment inner) = None
 box_of (insertion inserted inner) = None
+box_of (box_leaders head repeated inner) = None
 
 -- \lastpenalty, \lastkern and \lastskip: nothing where the last item is another
 abbrev pub last_penalty : List Item → ℤ
@@ -84,6 +88,7 @@ reaches distance (boxed shift head inner) = false
 reaches distance (discretionary head pre post) = nat_lt 0 distance && (nat_lt distance 256 && nat_le distance head.replaced)
 reaches distance (adjustment inner) = false
 reaches distance (insertion head inner) = false
+reaches distance (box_leaders head repeated inner) = false
 
 abbrev pub is_replaced : List Item → Bool
 is_replaced [] = false

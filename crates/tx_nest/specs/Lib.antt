@@ -1,6 +1,7 @@
 pub mod Factors
 pub mod FactorFields
 pub mod States
+pub mod Around
 pub mod Grafs
 pub mod Lending
 pub mod Leading

@@ -26,6 +26,7 @@ fn penalty_of(node: &Node) -> Option<i32>
         Node::Plain(Plain::Kern(_, _) | Plain::Glue(_) | Plain::Character(_)) => None,
         Node::Shared(_) | Node::Box(_, _) => None,
         Node::Discretionary(_) | Node::Adjustment(_) | Node::Insertion(_) => None,
+        Node::BoxLeaders(_) => None,
     }
 }
 
@@ -34,11 +35,14 @@ fn kern_of(node: &Node) -> Option<i32>
     ensures { result ≡ spec.kern_of (item_of node.now) }
 {
     match node {
-        Node::Plain(Plain::Kern(KernKind::Implicit | KernKind::Explicit, size)) => Some(*size),
+        Node::Plain(
+            Plain::Kern(KernKind::Implicit | KernKind::Accent | KernKind::Explicit, size),
+        ) => Some(*size),
         Node::Plain(Plain::Kern(KernKind::MathOn | KernKind::MathOff, _)) => None,
         Node::Plain(Plain::Penalty(_) | Plain::Glue(_) | Plain::Character(_)) => None,
         Node::Shared(_) | Node::Box(_, _) => None,
         Node::Discretionary(_) | Node::Adjustment(_) | Node::Insertion(_) => None,
+        Node::BoxLeaders(_) => None,
     }
 }
 
@@ -51,6 +55,7 @@ fn box_of(node: &Node) -> Result<Option<BoxNode>, AllocError>
         Node::Box(_, inner) => Ok(Some(BoxNode::clone(inner)?)),
         Node::Plain(_) | Node::Shared(_) => Ok(None),
         Node::Discretionary(_) | Node::Adjustment(_) | Node::Insertion(_) => Ok(None),
+        Node::BoxLeaders(_) => Ok(None),
     }
 }
 
@@ -115,6 +120,7 @@ fn reaches(distance: usize, node: &Node) -> bool
         }
         Node::Plain(_) | Node::Shared(_) | Node::Box(_, _) => false,
         Node::Adjustment(_) | Node::Insertion(_) => false,
+        Node::BoxLeaders(_) => false,
     }
 }
 

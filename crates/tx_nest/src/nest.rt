@@ -2,6 +2,7 @@
 ghost use Rattle.std.specs.Prelude.{◌≡◌, ◌↔◌, ◌≢◌, ◌∷◌, [], IsTrue, IfOk, OnOk};
 ghost use Rattle.tx_prim.specs.declared.modes.Mode.TheVariants as mode;
 ghost use Rattle.std.specs.Borrow.{sem};
+ghost use Rattle.tx_nest.specs.Around.{mode_around as mode_of_outer};
 ghost use Rattle.tx_nest.specs.States.{begun};
 
 use crate::list::ModeList;
@@ -71,6 +72,16 @@ impl Nest {
         ensures { result.now ≡ self.now.innermost }
     {
         &self.innermost
+    }
+
+    /// The mode of the list around the one that is being built; None exactly where this is the pages' list.
+    pub fn mode_around(&self) -> Option<Mode>
+        ensures { result ≡ mode_of_outer self.now.around }
+    {
+        match self.around.first() {
+            Some(outer) => Some(outer.mode()),
+            None => None,
+        }
     }
 
     /// Whether both are the same lists.

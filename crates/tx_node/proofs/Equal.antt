@@ -4,6 +4,7 @@ use Rattle.std.proofs.Common.{Bool, false}
 use Rattle.std.proofs.lemmas.List.{get_or-map}
 use Rattle.tx_num.specs.Glue.{GlueSpec}
 use Rattle.tx_node.specs.declared.head.BoxHead.{BoxHead}
+use Rattle.tx_node.specs.declared.node.BoxLeaders.{BoxLeaders}
 use Rattle.tx_node.specs.declared.node.Discretionary.{Discretionary}
 use Rattle.tx_node.specs.declared.node.Insertion.{Insertion}
 use Rattle.tx_node.specs.declared.node.Node.{Node}
@@ -12,7 +13,7 @@ use Rattle.tx_node.specs.declared.plain.LeadersKind.{LeadersKind}
 use Rattle.tx_node.specs.declared.rule.Rule.{Rule}
 use Rattle.tx_node.specs.declared.plain.Plain.TheVariants.{Penalty}
 use Rattle.tx_node.specs.Nodes.{item_of, list_of}
-use Rattle.tx_node.specs.Items.{Item, plain, shared, boxed, discretionary, adjustment, insertion, Items, none, more, PackedBox, items_of, box_item}
+use Rattle.tx_node.specs.Items.{Item, plain, shared, boxed, discretionary, adjustment, insertion, box_leaders, Items, none, more, PackedBox, items_of, box_item, leaders_item}
 
 -- the items of a box, as a list
 abbrev pub list_from : Items → List Item
@@ -29,6 +30,7 @@ box_part other (shared s) = other
 box_part other (discretionary head pre post) = other
 box_part other (adjustment inner) = other
 box_part other (insertion head inner) = other
+box_part other (box_leaders head repeated inner) = other
 box_part other (boxed shift head inner) = record { head = head; list = list_from inner }
 
 back : (shift : ℤ) (a : PackedBox) → box_part a (box_item shift a) ≡ a
@@ -75,7 +77,7 @@ same-boxes s t a b x_is y_is shifts same = (
   (λ e. same.1 (same-box s t a b (sym x_is ∙ e ∙ y_is))),
 )
 
--- the list of an adjustment, the parts of an insertion and of a discretionary, and another's of other items
+-- the list of an adjustment, the parts of an insertion, of a discretionary and of leaders of a box, and another's of other items
 abbrev adjustment_part : Item → List Item
 adjustment_part (plain p) = []
 adjustment_part (shared s) = []
@@ -83,6 +85,7 @@ adjustment_part (boxed shift head inner) = []
 adjustment_part (discretionary head pre post) = []
 adjustment_part (adjustment inner) = list_from inner
 adjustment_part (insertion head inner) = []
+adjustment_part (box_leaders head repeated inner) = []
 
 abbrev insertion_part : Insertion → Item → Insertion
 insertion_part other (plain p) = other
@@ -91,6 +94,7 @@ insertion_part other (boxed shift head inner) = other
 insertion_part other (discretionary head pre post) = other
 insertion_part other (adjustment inner) = other
 insertion_part other (insertion head inner) = record { head = head; list = list_from inner }
+insertion_part other (box_leaders head repeated inner) = other
 
 abbrev discretionary_part : Discretionary → Item → Discretionary
 discretionary_part other (plain p) = other
@@ -99,6 +103,16 @@ discretionary_part other (boxed shift head inner) = other
 discretionary_part other (discretionary head pre post) = record { head = head; before = list_from pre; behind = list_from post }
 discretionary_part other (adjustment inner) = other
 discretionary_part other (insertion head inner) = other
+discretionary_part other (box_leaders head repeated inner) = other
+
+abbrev leaders_part : BoxLeaders → Item → BoxLeaders
+leaders_part other (plain p) = other
+leaders_part other (shared s) = other
+leaders_part other (boxed shift head inner) = other
+leaders_part other (discretionary head pre post) = other
+leaders_part other (adjustment inner) = other
+leaders_part other (insertion head inner) = other
+leaders_part other (box_leaders head repeated inner) = record { head = head; inner = record { head = repeated; list = list_from inner } }
 
 abbrev insertion_item : Insertion → Item
 insertion_item n = insertion n.head (items_of n.list)
@@ -113,6 +127,9 @@ discretionary-back : (other d : Discretionary) → discretionary_part other (dis
 discretionary-back other d =
     ap (λ xs. record { head = d.head; before = xs; behind = list_from (items_of d.behind) }) (list-back d.before)
     ∙ ap (λ xs. record { head = d.head; before = d.before; behind = xs }) (list-back d.behind)
+
+leaders-back : (other l : BoxLeaders) → leaders_part other (leaders_item l.head l.inner) ≡ l
+leaders-back other l = ap (λ xs. record { head = l.head; inner = record { head = l.inner.head; list = xs } }) (list-back l.inner.list)
 
 -- they are equal as items where they are equal
 pub same-adjustments : {x y : Item} {told : Bool} (a b : List Item) → x ≡ adjustment (items_of a) → y ≡ adjustment (items_of b)
@@ -134,4 +151,11 @@ pub same-discretionaries : {x y : Item} {told : Bool} (a b : Discretionary) → 
 same-discretionaries a b x_is y_is same = (
   (λ t. x_is ∙ ap discretionary_item (same.0 t) ∙ sym y_is),
   (λ e. same.1 (sym (discretionary-back a a) ∙ ap (discretionary_part a) (sym x_is ∙ e ∙ y_is) ∙ discretionary-back a b)),
+)
+
+pub same-box-leaders : {x y : Item} {told : Bool} (a b : BoxLeaders) → x ≡ leaders_item a.head a.inner → y ≡ leaders_item b.head b.inner
+    → (IsTrue told ↔ (a ≡ b)) → (IsTrue told ↔ (x ≡ y))
+same-box-leaders a b x_is y_is same = (
+  (λ t. x_is ∙ ap (λ (l : BoxLeaders). leaders_item l.head l.inner) (same.0 t) ∙ sym y_is),
+  (λ e. same.1 (sym (leaders-back a a) ∙ ap (leaders_part a) (sym x_is ∙ e ∙ y_is) ∙ leaders-back a b)),
 )

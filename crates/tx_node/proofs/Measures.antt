@@ -1,6 +1,7 @@
 -- What walks through boxes go down: five times the count of nodes, a list standing above its items, an item above the box that it is,
 -- and this above what is put of it, one part after another.
 use Rattle.std.proofs.Common.{◌≡◌, ℕ, zero, suc, ◌+◌, ◌*◌, ◌<◌, ◌≤◌, List, [], ◌∷◌, length, get_or, arith, subst, sym}
+use Rattle.tx_node.specs.declared.node.BoxLeaders.{BoxLeaders}
 use Rattle.tx_node.specs.declared.node.Discretionary.{Discretionary}
 use Rattle.tx_node.specs.declared.node.Insertion.{Insertion}
 use Rattle.tx_node.specs.declared.node.Node.{Node}
@@ -22,6 +23,10 @@ framed_measure b = 5 * box_count b + 1
 
 abbrev pub inside_measure : PackedBox → ℕ
 inside_measure b = 5 * box_count b
+
+-- leaders of a box
+abbrev pub leaders_measure : BoxLeaders → ℕ
+leaders_measure l = 5 * box_count l.inner + 3
 
 -- a list that is no box's, and what has one or two
 abbrev pub sublist_measure : List Item → ℕ

@@ -9,21 +9,24 @@ use Rattle.tx_node.specs.declared.head.BreakHead.{BreakHead}
 use Rattle.tx_node.specs.contracts.head.BreakHead as break_head
 use Rattle.tx_node.specs.declared.head.InsertHead.{InsertHead}
 use Rattle.tx_node.specs.contracts.head.InsertHead as insert_head
+use Rattle.tx_node.specs.declared.head.LeadersHead.{LeadersHead}
+use Rattle.tx_node.specs.contracts.head.LeadersHead as leaders_head
 use Rattle.tx_node.specs.declared.plain.Plain.{Plain}
 use Rattle.tx_node.specs.declared.plain.Plain.TheVariants.{Penalty}
 use Rattle.tx_node.specs.contracts.plain.Plain as plain_item
 use Rattle.tx_node.specs.declared.plain.Shared.{Shared}
 use Rattle.tx_node.specs.contracts.plain.Shared as shared_item
-use Rattle.tx_node.specs.Items.{Item, plain, shared, boxed, discretionary, adjustment, insertion, Items, none, more, PackedBox}
+use Rattle.tx_node.specs.Items.{Item, plain, shared, boxed, discretionary, adjustment, insertion, box_leaders, Items, none, more, PackedBox}
 
--- an item without a list, a box, a discretionary, an insertion, an adjustment (1), or what closes a list (0)
+-- an item without a list, a box, a discretionary, an insertion, leaders of a box, an adjustment (1), or what closes a list (0)
 abbrev pub Row : Type 0
-Row = Plain ⊎ (Shared ⊎ ((ℤ × BoxHead) ⊎ (BreakHead ⊎ (InsertHead ⊎ ℕ))))
+Row = Plain ⊎ (Shared ⊎ ((ℤ × BoxHead) ⊎ (BreakHead ⊎ (InsertHead ⊎ ((LeadersHead × BoxHead) ⊎ ℕ)))))
 
 abbrev pub rows_code : Coded (List Row)
 rows_code =
     coded_list (coded⊎ plain_item.the_row.coded (coded⊎ shared_item.the_row.coded (coded⊎ (coded× coded_ℤ box_head.the_row.coded)
-    (coded⊎ break_head.the_row.coded (coded⊎ insert_head.the_row.coded coded_ℕ)))))
+    (coded⊎ break_head.the_row.coded (coded⊎ insert_head.the_row.coded
+    (coded⊎ (coded× leaders_head.the_row.coded box_head.the_row.coded) coded_ℕ))))))
 
 abbrev pub plain_row : Plain → Row
 plain_row p = inl p
@@ -40,11 +43,14 @@ break_row head = inr (inr (inr (inl head)))
 abbrev pub insert_row : InsertHead → Row
 insert_row head = inr (inr (inr (inr (inl head))))
 
+abbrev pub leaders_row : LeadersHead → BoxHead → Row
+leaders_row head repeated = inr (inr (inr (inr (inr (inl (head, repeated))))))
+
 abbrev pub adjustment_row : Row
-adjustment_row = inr (inr (inr (inr (inr 1))))
+adjustment_row = inr (inr (inr (inr (inr (inr 1)))))
 
 abbrev pub closing : Row
-closing = inr (inr (inr (inr (inr 0))))
+closing = inr (inr (inr (inr (inr (inr 0)))))
 
 -- the rows of a list, before others
 abbrev pub rows : Items → List Row → List Row
@@ -55,6 +61,7 @@ rows (more (boxed shift head inner) rest) behind = box_row shift head ∷ rows i
 rows (more (discretionary head pre post) rest) behind = break_row head ∷ rows pre (closing ∷ rows post (closing ∷ rows rest behind))
 rows (more (adjustment inner) rest) behind = adjustment_row ∷ rows inner (closing ∷ rows rest behind)
 rows (more (insertion head inner) rest) behind = insert_row head ∷ rows inner (closing ∷ rows rest behind)
+rows (more (box_leaders head repeated inner) rest) behind = leaders_row head repeated ∷ rows inner (closing ∷ rows rest behind)
 
 -- the list that was read so far, and those around it, from the last row on
 abbrev pub top_of : List Items → Items
@@ -72,8 +79,9 @@ with_row (inr (inr (inl b))) read = (more (boxed b.0 b.1 read.0) (top_of read.1)
 with_row (inr (inr (inr (inl head)))) read =
     (more (discretionary head read.0 (top_of read.1)) (top_of (rest_of read.1)), rest_of (rest_of read.1))
 with_row (inr (inr (inr (inr (inl head))))) read = (more (insertion head read.0) (top_of read.1), rest_of read.1)
-with_row (inr (inr (inr (inr (inr zero))))) read = (none, read.0 ∷ read.1)
-with_row (inr (inr (inr (inr (inr (suc n)))))) read = (more (adjustment read.0) (top_of read.1), rest_of read.1)
+with_row (inr (inr (inr (inr (inr (inl l)))))) read = (more (box_leaders l.0 l.1 read.0) (top_of read.1), rest_of read.1)
+with_row (inr (inr (inr (inr (inr (inr zero)))))) read = (none, read.0 ∷ read.1)
+with_row (inr (inr (inr (inr (inr (inr (suc n))))))) read = (more (adjustment read.0) (top_of read.1), rest_of read.1)
 
 abbrev pub read_rows : List Row → Items × List Items
 read_rows [] = (none, [])
@@ -97,6 +105,9 @@ read_back (more (adjustment inner) rest) behind around e =
     (read_back inner (closing ∷ rows rest behind) (rest ∷ around) (ap (with_row closing) (read_back rest behind around e)))
 read_back (more (insertion head inner) rest) behind around e =
     ap (with_row (insert_row head))
+    (read_back inner (closing ∷ rows rest behind) (rest ∷ around) (ap (with_row closing) (read_back rest behind around e)))
+read_back (more (box_leaders head repeated inner) rest) behind around e =
+    ap (with_row (leaders_row head repeated))
     (read_back inner (closing ∷ rows rest behind) (rest ∷ around) (ap (with_row closing) (read_back rest behind around e)))
 
 -- the first item; a list that a code gives has one

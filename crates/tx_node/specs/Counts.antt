@@ -1,6 +1,6 @@
 -- How deep boxes nest, and how many nodes they hold.
 use Rattle.std.specs.Prelude.{ℕ, suc, ◌+◌, ◌-◌, ◌^◌, min, max, List}
-use Rattle.tx_node.specs.Items.{Item, Items, none, more, plain, shared, boxed, discretionary, adjustment, insertion, PackedBox, items_of}
+use Rattle.tx_node.specs.Items.{Item, Items, none, more, plain, shared, boxed, discretionary, adjustment, insertion, box_leaders, PackedBox, items_of}
 
 -- how deep boxes nest in a list: 0 where there is none, 1 where no box has a box in it
 abbrev mutual
@@ -15,8 +15,9 @@ abbrev mutual
   item_nesting (discretionary head before behind) = max (nesting_of before) (nesting_of behind)
   item_nesting (adjustment inner) = nesting_of inner
   item_nesting (insertion head inner) = nesting_of inner
+  item_nesting (box_leaders head repeated inner) = suc (nesting_of inner)
 
--- how many nodes a list holds, with all that their lists hold; what has a list is a node itself
+-- how many nodes a list holds, with all that their lists hold; what has a list is a node itself, and so is the box of leaders
 abbrev mutual
   pub count_of : Items → ℕ
   count_of none = 0
@@ -29,6 +30,7 @@ abbrev mutual
   item_count (discretionary head before behind) = suc (count_of before + count_of behind)
   item_count (adjustment inner) = suc (count_of inner)
   item_count (insertion head inner) = suc (count_of inner)
+  item_count (box_leaders head repeated inner) = suc (suc (count_of inner))
 
 -- the same of a box, itself counted
 abbrev pub box_nesting : PackedBox → ℕ

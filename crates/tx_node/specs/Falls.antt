@@ -3,7 +3,7 @@ use Rattle.std.specs.Prelude.{◌≤◌, suc, max, List, [], ◌∷◌}
 use Rattle.std.proofs.Common.{arith}
 use denote.Param.Weighed.{most}
 use Rattle.tx_node.specs.declared.node.Node.{Node}
-use Rattle.tx_node.specs.declared.node.Node.TheVariants.{Plain, Shared, Box, Discretionary, Adjustment, Insertion}
+use Rattle.tx_node.specs.declared.node.Node.TheVariants.{Plain, Shared, Box, Discretionary, Adjustment, Insertion, BoxLeaders}
 use Rattle.tx_node.specs.declared.node.BoxNode.TheDeep.{deep-Node}
 use Rattle.tx_node.specs.Items.{items_of}
 use Rattle.tx_node.specs.Counts.{count_of}
@@ -17,3 +17,4 @@ falls (Box shift b ∷ rest) = omega (arith, falls rest)
 falls (Discretionary d ∷ rest) = omega (arith, falls rest)
 falls (Adjustment a ∷ rest) = omega (arith, falls rest)
 falls (Insertion n ∷ rest) = omega (arith, falls rest)
+falls (BoxLeaders l ∷ rest) = omega (arith, falls rest)

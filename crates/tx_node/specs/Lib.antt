@@ -3,5 +3,7 @@ pub mod Codes
 pub mod Counts
 pub mod Sizes
 pub mod Setting
+pub mod Copies
+pub mod Shipped
 pub mod Falls
 pub mod Nodes

@@ -10,6 +10,7 @@ use Rattle.tx_node.specs.declared.head.Direction.{Direction}
 use Rattle.tx_node.specs.declared.head.GlueSet.{GlueSet}
 use Rattle.tx_node.specs.declared.head.Setting.{Setting}
 use Rattle.tx_node.specs.declared.head.Setting.TheVariants.{Natural, Set}
+use Rattle.tx_node.specs.declared.places.Reached.{Reached}
 use Rattle.tx_node.specs.Items.{Item, Items, none, more}
 use Rattle.tx_node.specs.Sizes.{glue_of_item, advance}
 
@@ -47,6 +48,10 @@ pub record Reach : Type 0 where
 
 abbrev pub begun : Reach
 begun = record { natural = pos 0; sum = pos 0 }
+
+-- the same in code
+abbrev pub reach_of : Reached → Reach
+reach_of reached = record { natural = reached.natural; sum = reached.sum }
 
 -- and behind it
 abbrev pub behind : Direction → Setting → Reach → Item → Reach

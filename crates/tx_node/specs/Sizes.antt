@@ -11,7 +11,7 @@ use Rattle.tx_node.specs.declared.plain.Plain.TheVariants.{Kern, Glue, Penalty, 
 use Rattle.tx_node.specs.declared.plain.Shared.{Shared}
 use Rattle.tx_node.specs.declared.plain.Shared.TheVariants.{Rule, Leaders, Special, Ligature, Mark}
 use Rattle.tx_node.specs.declared.rule.Rule.{Rule as RuleSides}
-use Rattle.tx_node.specs.Items.{Item, plain, shared, boxed, discretionary, adjustment, insertion}
+use Rattle.tx_node.specs.Items.{Item, plain, shared, boxed, discretionary, adjustment, insertion, box_leaders}
 
 -- the side of a rule, nothing where it runs
 abbrev pub side : Option ℤ → ℤ
@@ -38,6 +38,7 @@ glue_of_item (boxed shift head inner) = None
 glue_of_item (discretionary head before behind) = None
 glue_of_item (adjustment inner) = None
 glue_of_item (insertion head inner) = None
+glue_of_item (box_leaders head repeated inner) = Some head.glue
 
 -- how far a character, a rule and a box reach in a list of this direction
 abbrev pub character_advance : Direction → CharacterItem → ℤ
@@ -74,3 +75,4 @@ advance direction (boxed shift head inner) = box_advance direction head
 advance direction (discretionary head before behind) = pos 0
 advance direction (adjustment inner) = pos 0
 advance direction (insertion head inner) = pos 0
+advance direction (box_leaders head repeated inner) = head.glue.width

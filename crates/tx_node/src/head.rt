@@ -1,4 +1,5 @@
-//! What boxes, discretionaries and insertions are beside their lists.
+//! What boxes, discretionaries, insertions and leaders are beside their lists.
+use crate::plain::LeadersKind;
 use tx_num::Glue;
 
 /// Which way the items of a list follow one another.
@@ -64,4 +65,11 @@ pub struct InsertHead {
     pub split_top_skip: Glue,
     pub split_max_depth: i32,
     pub floating_penalty: i32,
+}
+
+/// Leaders of a box beside this (TeX: The Program, section 149): how its copies are spread, and the glue that they fill.
+#[derive(Clone, Copy)]
+pub struct LeadersHead {
+    pub kind: LeadersKind,
+    pub glue: Glue,
 }

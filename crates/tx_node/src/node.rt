@@ -1,15 +1,17 @@
 //! Nodes of lists, and boxes, which nest, and what else has lists.
-ghost use Rattle.std.specs.Prelude.{◌≡◌, ◌≤◌, ◌<◌, ◌+◌, ◌^◌, pos, suc, max, true, unsigned_abs, IfOk};
+ghost use Rattle.std.specs.Prelude.{◌≡◌, ◌≤◌, ◌<◌, ◌+◌, ◌*◌, ◌^◌, pos, suc, max, true, unsigned_abs, IfOk};
 ghost use Rattle.tx_node.specs.Counts.{ended as to_the_end};
+ghost use Rattle.tx_node.specs.Shipped.{box_shipped as shipped_nodes};
 
-use crate::head::{BoxHead, BreakHead, Direction, InsertHead, Setting};
+use crate::head::{BoxHead, BreakHead, Direction, InsertHead, LeadersHead, Setting};
+use crate::places::Reached;
 use crate::plain::{Plain, Shared};
 use std::alloc::{AllocError, Global};
 use std::marker::Model;
 use std::rc::Rc;
 
-/// A list that was packed: its head and the list, which clones share. It keeps how deep boxes nest in it and how many nodes
-/// it holds. Contracts see a record of its head and its list.
+/// A list that was packed: its head and the list, which clones share. It keeps how deep boxes nest in it, how many nodes it holds,
+/// how many are shipped of it, and whether leaders of a box are in it. Contracts see a record of its head and its list.
 #[cycle(node)]
 #[derive(Drop)]
 pub struct BoxNode {
@@ -17,12 +19,15 @@ pub struct BoxNode {
     pub(crate) held: Rc<Held>,
 }
 
-/// The list of a box, how deep this box nests, and how many nodes it is, itself counted.
+/// The list of a box, how deep this box nests, how many nodes it is, and how many are shipped of it, itself counted; and whether the
+/// list has leaders of a box.
 #[cycle(node)]
 #[derive(Drop)]
 pub struct Held {
     pub(crate) nesting: u16,
     pub(crate) count: u64,
+    pub(crate) shipped: u64,
+    pub(crate) leads: bool,
     pub(crate) list: Vec<Node>,
 }
 
@@ -53,6 +58,14 @@ pub struct Insertion {
     pub list: Sublist,
 }
 
+/// Leaders of a box (TeX: The Program, section 149): glue that is filled with copies of it.
+#[cycle(node)]
+#[derive(Drop)]
+pub struct BoxLeaders {
+    pub head: LeadersHead,
+    pub inner: BoxNode,
+}
+
 /// One item of a list. Contracts see the item that `item_of` gives.
 #[cycle(node)]
 #[derive(Drop)]
@@ -70,6 +83,8 @@ pub enum Node {
     Adjustment(Rc<Sublist>),
     /// An insertion, which clones of the node share.
     Insertion(Rc<Insertion>),
+    /// Leaders of a box, which clones of the node share.
+    BoxLeaders(Rc<BoxLeaders>),
 }
 
 impl Model for BoxNode {
@@ -86,7 +101,7 @@ impl Model for BoxNode {
 
     ghost view = { λ b. record { head = b.head; list = list_of b.held.value.list.items } };
 
-    ghost invariant = { λ b. IsKept b.head b.held.value.nesting b.held.value.count (list_of b.held.value.list.items) };
+    ghost invariant = { λ b. IsKept b.head b.held.value.nesting b.held.value.count b.held.value.shipped b.held.value.leads (list_of b.held.value.list.items) };
 
     ghost size = { box_count };
 
@@ -217,6 +232,22 @@ impl Insertion {
     }
 }
 
+impl BoxLeaders {
+    /// How its copies are spread, and the glue that they fill.
+    pub fn head(&self) -> LeadersHead
+        ensures { result ≡ self.now.head }
+    {
+        self.head
+    }
+
+    /// The box of which they are copies, lent.
+    pub fn inner(&self) -> &BoxNode
+        ensures { result.now ≡ self.now.inner }
+    {
+        &self.inner
+    }
+}
+
 /// A count of one node more; counts end at 2^64-1.
 fn one_more(count: u64) -> u64
     ensures { result ≡ to_the_end (suc count) }
@@ -224,11 +255,26 @@ fn one_more(count: u64) -> u64
     count.saturating_add(1)
 }
 
+/// A number of copies, in 64 bits; it ends at 2^64-1.
+fn few(copies: u128) -> u64
+    ensures { result ≡ to_the_end copies }
+{
+    copies.min(u128::from(u64::MAX)) as u64
+}
+
+/// How many nodes are shipped of so many copies of a box; counts end at 2^64-1.
+fn copied(copies: u128, inner: &BoxNode) -> u64
+    ensures { result ≡ to_the_end (copies * shipped_nodes inner.now) }
+{
+    few(copies).saturating_mul(inner.shipped())
+}
+
 impl BoxNode {
     ghost use Rattle.tx_node.specs.Nodes.{list_of, IsBox};
     ghost use Rattle.tx_node.specs.Items.{items_of};
     ghost use Rattle.tx_node.specs.Counts.{box_nesting, box_count, ended};
     ghost use Rattle.tx_node.specs.Setting.{IsSet, sums_fit};
+    ghost use Rattle.tx_node.specs.Shipped.{box_shipped, leads_boxes};
 
     /// What the box is beside its list.
     pub fn head(&self) -> BoxHead
@@ -311,6 +357,20 @@ impl BoxNode {
         self.held.count
     }
 
+    /// How many nodes are shipped where this is: itself and all that it holds, with each copy that leaders make; counts end at 2^64-1.
+    pub fn shipped(&self) -> u64
+        ensures { result ≡ ended (box_shipped self.now) }
+    {
+        self.held.shipped
+    }
+
+    /// Whether its list has leaders of a box: by them alone it depends on places how many copies are made.
+    pub fn leads(&self) -> bool
+        ensures { result ≡ leads_boxes (items_of self.now.list) }
+    {
+        self.held.leads
+    }
+
     /// The list, lent.
     pub fn list(&self) -> &[Node]
         ensures { list_of result.now ≡ self.now.list }
@@ -334,8 +394,10 @@ impl Clone for BoxNode {
 impl Node {
     ghost use Rattle.tx_node.specs.declared.plain.Shared.{Shared as Large};
     ghost use Rattle.tx_node.specs.Nodes.{item_of};
-    ghost use Rattle.tx_node.specs.Items.{shared, box_item};
+    ghost use Rattle.tx_node.specs.Items.{shared, box_item, leaders_item};
     ghost use Rattle.tx_node.specs.Counts.{item_nesting, item_count, ended};
+    ghost use Rattle.tx_node.specs.Setting.{IsSet, reach_of};
+    ghost use Rattle.tx_node.specs.Shipped.{copies_made, is_leading as leads_copies, item_shipped};
     ghost use Rattle.tx_node.specs.Sizes.{advance};
 
     /// A larger item without a list, as a node. Its only error is want of memory.
@@ -358,6 +420,20 @@ impl Node {
         }
     }
 
+    /// Leaders of a box, as a node. Its only error is want of memory.
+    pub fn from_box_leaders(
+        alloc: Global,
+        head: LeadersHead,
+        inner: BoxNode,
+    ) -> Result<Node, AllocError>
+        ensures { IfOk result (λ node. item_of node ≡ leaders_item head inner) }
+    {
+        match Rc::new(alloc, BoxLeaders { head, inner }) {
+            Ok(inner) => Ok(Node::BoxLeaders(inner)),
+            Err(_) => Err(AllocError),
+        }
+    }
+
     /// How deep boxes nest in the node: 0 where it has none, at most 500.
     pub fn nesting(&self) -> u16
         ensures value { result ≡ item_nesting (item_of self.now) }
@@ -369,6 +445,7 @@ impl Node {
             Node::Discretionary(inner) => inner.nesting(),
             Node::Adjustment(inner) => inner.nesting(),
             Node::Insertion(inner) => inner.list.nesting(),
+            Node::BoxLeaders(leaders) => leaders.inner.nesting(),
         }
     }
 
@@ -382,6 +459,51 @@ impl Node {
             Node::Discretionary(inner) => inner.count(),
             Node::Adjustment(inner) => one_more(inner.count()),
             Node::Insertion(inner) => one_more(inner.list.count()),
+            Node::BoxLeaders(leaders) => one_more(leaders.inner.count()),
+        }
+    }
+
+    /// Whether the node is leaders of a box.
+    pub(crate) fn is_leading(&self) -> bool
+        ensures { result ≡ leads_copies (item_of self.now) }
+    {
+        matches!(self, Node::BoxLeaders(_))
+    }
+
+    /// How many copies the node makes where the list of a box with this head has come from here to there by it; only leaders of a box
+    /// make any.
+    #[tactic(auto, unfolding(crate::specs::Shipped::copies_made))]
+    pub fn copies(&self, head: &BoxHead, from: Reached, to: Reached) -> u128
+        requires is_set { IsSet head.now.setting }
+        requires from_natural { unsigned_abs from.natural ≤ 2 ^ 97 }
+        requires from_sum { unsigned_abs from.sum < 2 ^ 30 }
+        requires to_natural { unsigned_abs to.natural ≤ 2 ^ 97 }
+        requires to_sum { unsigned_abs to.sum < 2 ^ 30 }
+        ensures { result ≡ copies_made head.now.direction head.now.setting (reach_of from) (reach_of to) (item_of self.now) }
+    {
+        match self {
+            Node::BoxLeaders(leaders) => {
+                let begins = head.stands(from);
+                let size = head.stands(to) - begins;
+                let copies = leaders.copies(head.direction, begins, size);
+                copies.count
+            }
+            Node::Plain(_) | Node::Shared(_) | Node::Box(_, _) => 0,
+            Node::Discretionary(_) | Node::Adjustment(_) | Node::Insertion(_) => 0,
+        }
+    }
+
+    /// How many nodes are shipped of the node, which makes so many copies; counts end at 2^64-1.
+    pub(crate) fn shipped(&self, copies: u128) -> u64
+        ensures { result ≡ ended (item_shipped copies (item_of self.now)) }
+    {
+        match self {
+            Node::Plain(_) | Node::Shared(_) => 1,
+            Node::Box(_, inner) => inner.shipped(),
+            Node::Discretionary(inner) => inner.count(),
+            Node::Adjustment(inner) => one_more(inner.count()),
+            Node::Insertion(inner) => one_more(inner.list.count()),
+            Node::BoxLeaders(leaders) => one_more(copied(copies, &leaders.inner)),
         }
     }
 }
@@ -401,6 +523,7 @@ impl Clone for Node {
             Node::Discretionary(inner) => Ok(Node::Discretionary(inner.clone()?)),
             Node::Adjustment(inner) => Ok(Node::Adjustment(inner.clone()?)),
             Node::Insertion(inner) => Ok(Node::Insertion(inner.clone()?)),
+            Node::BoxLeaders(inner) => Ok(Node::BoxLeaders(inner.clone()?)),
         }
     }
 }

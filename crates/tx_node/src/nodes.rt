@@ -3,9 +3,11 @@ ghost use Rattle.std.specs.Prelude.{◌≡◌, ◌↔◌, ◌≤◌, ◌∷◌, 
 ghost use Rattle.tx_node.specs.Nodes.{item_of, list_of, IsBox};
 ghost use Rattle.tx_node.specs.Items.{items_of, discretionary, adjustment, insertion};
 ghost use Rattle.tx_node.specs.Counts.{nesting_of, count_of, ended};
+ghost use Rattle.tx_node.specs.Setting.{begun};
+ghost use Rattle.tx_node.specs.Shipped.{leads_boxes, shipped_of};
 
 use crate::head::{BoxHead, BreakHead, InsertHead};
-use crate::measure::{counted, deepest};
+use crate::measure::{counted, deepest, leads, shipped, shipped_alone};
 use crate::node::{BoxNode, Discretionary, Held, Insertion, Node, Sublist};
 use crate::same::same_list;
 use std::alloc::{AllocError, Global};
@@ -90,6 +92,36 @@ impl Nodes {
         counted(&self.items)
     }
 
+    /// Whether the list, in which boxes nest so deep, has leaders of a box.
+    #[tactic(auto, using(crate::proofs::Alone::flat_leads))]
+    fn leads(&self, nesting: u16) -> bool
+        requires { nesting ≡ nesting_of (items_of self.now) }
+        ensures { result ≡ leads_boxes (items_of self.now) }
+    {
+        nesting > 0 && leads(&self.items)
+    }
+
+    /// How many nodes are shipped of the list in a box with this head, with each copy that leaders make; counts end at 2^64-1. Boxes
+    /// nest so deep in it, it has so many nodes, and leaders of a box or none: most lists have no box at all, and next to none has
+    /// leaders of one.
+    #[tactic(auto, using(crate::proofs::Alone::alone_is_shipped, crate::proofs::Alone::flat_is_shipped))]
+    fn shipped(&self, head: BoxHead, nesting: u16, count: u64, leads: bool) -> u64
+        requires is_box { IsBox head self.now }
+        requires nesting { nesting ≡ nesting_of (items_of self.now) }
+        requires count { count ≡ ended (count_of (items_of self.now)) }
+        requires leads { leads ≡ leads_boxes (items_of self.now) }
+        ensures { result ≡ ended (shipped_of head.direction head.setting begun (items_of self.now)) }
+    {
+        if nesting == 0 {
+            return count;
+        }
+        if leads {
+            shipped(&self.items, head)
+        } else {
+            shipped_alone(&self.items)
+        }
+    }
+
     /// Makes room for so many more nodes. Its only error is want of memory.
     pub fn reserve(&mut self, more: usize) -> Result<(), AllocError>
         ensures { self.new ≡ self.old }
@@ -157,9 +189,15 @@ impl BoxNode {
         requires { IsBox head list }
         ensures { IfOk result (λ made. made ≡ record { head = head; list = list }) }
     {
+        let nesting = list.nesting();
+        let count = list.count();
+        let leads = list.leads(nesting);
+        let shipped = list.shipped(head, nesting, count, leads);
         let held = Held {
-            nesting: list.nesting() + 1,
-            count: list.count().saturating_add(1),
+            nesting: nesting + 1,
+            count: count.saturating_add(1),
+            shipped: shipped.saturating_add(1),
+            leads,
             list: list.into_vec(),
         };
         match Rc::new(alloc, held) {

@@ -11,6 +11,8 @@ use tx_toklist::TokList;
 pub enum KernKind {
     /// From a font's table, or from TeX itself.
     Implicit,
+    /// From \accent, on both sides of it.
+    Accent,
     /// From \kern.
     Explicit,
     /// From the beginning of a formula.
@@ -43,7 +45,7 @@ pub enum LeadersKind {
     Expanded,
 }
 
-/// Leaders: glue that is filled with a rule.
+/// Leaders of a rule: glue that is filled with it.
 #[derive(Clone, Copy)]
 pub struct Leaders {
     pub kind: LeadersKind,
@@ -56,7 +58,7 @@ pub struct Leaders {
 pub enum Shared {
     /// A rule.
     Rule(Rule),
-    /// Leaders.
+    /// Leaders of a rule.
     Leaders(Leaders),
     /// The bytes of a \special.
     Special(Bytes),

@@ -3,8 +3,10 @@ ghost use Rattle.std.specs.Prelude.{◌≡◌, ◌↔◌, IsTrue};
 ghost use Rattle.tx_node.specs.Nodes.{item_of, list_of};
 
 use crate::character::{Character, Ligature};
-use crate::head::{BoxHead, BreakHead, Change, Direction, GlueSet, InsertHead, Setting};
-use crate::node::{BoxNode, Discretionary, Insertion, Node, Sublist};
+use crate::head::{
+    BoxHead, BreakHead, Change, Direction, GlueSet, InsertHead, LeadersHead, Setting,
+};
+use crate::node::{BoxLeaders, BoxNode, Discretionary, Insertion, Node, Sublist};
 use crate::plain::{KernKind, Leaders, LeadersKind, Plain, Shared};
 use crate::rule::Rule;
 use tx_num::Glue;
@@ -102,7 +104,7 @@ fn same_leaders(a: Leaders, b: Leaders) -> bool
 }
 
 /// Whether two characters are equal.
-fn same_character(a: Character, b: Character) -> bool
+pub fn same_character(a: Character, b: Character) -> bool
     ensures { IsTrue result ↔ (a ≡ b) }
 {
     a.font == b.font
@@ -171,6 +173,13 @@ fn same_insert(a: &InsertHead, b: &InsertHead) -> bool
         && a.floating_penalty == b.floating_penalty
 }
 
+/// Whether leaders of two boxes are equal beside these.
+fn same_leaders_head(a: LeadersHead, b: LeadersHead) -> bool
+    ensures { IsTrue result ↔ (a ≡ b) }
+{
+    same_kind(a.kind, b.kind) && same_glue(a.glue, b.glue)
+}
+
 /// Whether two nodes are the same item.
 #[cycle(same)]
 pub fn same_node(a: &Node, b: &Node) -> bool
@@ -183,6 +192,7 @@ pub fn same_node(a: &Node, b: &Node) -> bool
         (Node::Discretionary(a), Node::Discretionary(b)) => same_discretionary(a, b),
         (Node::Adjustment(a), Node::Adjustment(b)) => same_sublist(a, b),
         (Node::Insertion(a), Node::Insertion(b)) => same_insertion(a, b),
+        (Node::BoxLeaders(a), Node::BoxLeaders(b)) => same_box_leaders(a, b),
         _ => false,
     }
 }
@@ -224,6 +234,17 @@ fn same_insertion(a: &Insertion, b: &Insertion) -> bool
         return false;
     }
     same_sublist(&a.list, &b.list)
+}
+
+/// Whether leaders of two boxes are equal.
+#[cycle(same)]
+fn same_box_leaders(a: &BoxLeaders, b: &BoxLeaders) -> bool
+    ensures { IsTrue result ↔ (a.now ≡ b.now) }
+{
+    if !same_leaders_head(a.head, b.head) {
+        return false;
+    }
+    same_box(&a.inner, &b.inner)
 }
 
 /// Whether two lists that nodes have are equal.

@@ -92,6 +92,7 @@ impl Node {
             Node::Shared(item) => shared_advance(direction, item),
             Node::Box(_, inner) => inner.head().advance(direction),
             Node::Discretionary(_) | Node::Adjustment(_) | Node::Insertion(_) => 0,
+            Node::BoxLeaders(leaders) => leaders.head().glue.width(),
         }
     }
 
@@ -104,6 +105,7 @@ impl Node {
             Node::Shared(item) => shared_glue(item),
             Node::Box(_, _) | Node::Discretionary(_) | Node::Adjustment(_) | Node::Insertion(_) =>
                 None,
+            Node::BoxLeaders(leaders) => Some(leaders.head().glue),
         }
     }
 }

@@ -1,5 +1,5 @@
 -- The last node that was contributed to the page (TeX: The Program, sections 991 and 996).
-use Rattle.tx_node.specs.Items.{Item, plain, shared, boxed, discretionary, adjustment, insertion}
+use Rattle.tx_node.specs.Items.{Item, plain, shared, boxed, discretionary, adjustment, insertion, box_leaders}
 use Rattle.tx_node.specs.declared.plain.Plain.{Plain}
 use Rattle.tx_node.specs.declared.plain.Plain.TheVariants as small
 use Rattle.tx_node.specs.declared.plain.Shared.{Shared}
@@ -28,3 +28,4 @@ last_item (boxed shift head inner) = Other
 last_item (discretionary head before behind) = Other
 last_item (adjustment inner) = Other
 last_item (insertion head inner) = Other
+last_item (box_leaders head repeated inner) = Skip head.glue

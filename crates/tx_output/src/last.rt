@@ -51,6 +51,7 @@ pub fn last_item(node: &Node) -> LastItem
         Node::Shared(item) => larger_item(item),
         Node::Box(_, _) => LastItem::Other,
         Node::Discretionary(_) | Node::Adjustment(_) | Node::Insertion(_) => LastItem::Other,
+        Node::BoxLeaders(leaders) => LastItem::Skip(leaders.head().glue),
     }
 }
 

@@ -14,7 +14,7 @@ use Rattle.tx_node.specs.declared.plain.Plain.TheVariants.{Kern, Glue, Penalty, 
 use Rattle.tx_node.specs.declared.plain.Shared.{Shared}
 use Rattle.tx_node.specs.declared.plain.Shared.TheVariants.{Rule, Leaders, Special, Ligature, Mark}
 use Rattle.tx_node.specs.declared.rule.Rule.{Rule as RuleSides}
-use Rattle.tx_node.specs.Items.{Item, plain, shared, boxed, discretionary, adjustment, insertion}
+use Rattle.tx_node.specs.Items.{Item, plain, shared, boxed, discretionary, adjustment, insertion, box_leaders}
 use Rattle.tx_node.specs.Sizes.{side, advance, glue_of_item}
 use Rattle.tx_node.specs.Setting.{glue_part}
 use Rattle.tx_pack.specs.declared.sums.Orders.{Orders}
@@ -50,6 +50,7 @@ height_asked (boxed shift head inner) = head.height -ℤ shift
 height_asked (discretionary replaced pre post) = pos 0
 height_asked (adjustment inner) = pos 0
 height_asked (insertion inserted inner) = pos 0
+height_asked (box_leaders head repeated inner) = repeated.height
 
 abbrev pub depth_asked : Item → ℤ
 depth_asked (plain p) = side (plain_sides p).depth
@@ -58,6 +59,7 @@ depth_asked (boxed shift head inner) = head.depth +ℤ shift
 depth_asked (discretionary replaced pre post) = pos 0
 depth_asked (adjustment inner) = pos 0
 depth_asked (insertion inserted inner) = pos 0
+depth_asked (box_leaders head repeated inner) = repeated.depth
 
 -- the width that an item asks of a vertical list's box
 abbrev pub width_asked : Item → ℤ
@@ -67,6 +69,7 @@ width_asked (boxed shift head inner) = head.width +ℤ shift
 width_asked (discretionary replaced pre post) = pos 0
 width_asked (adjustment inner) = pos 0
 width_asked (insertion inserted inner) = pos 0
+width_asked (box_leaders head repeated inner) = repeated.width
 
 -- the depth of a vertical list whose last item this is, where it was so deep before: that of a box, rule or character; none behind glue
 -- and kerns; penalties, specials, marks, and what has a list and is no box change nothing
@@ -90,6 +93,7 @@ depth_left depth (boxed shift head inner) = head.depth
 depth_left depth (discretionary replaced pre post) = depth
 depth_left depth (adjustment inner) = depth
 depth_left depth (insertion inserted inner) = depth
+depth_left depth (box_leaders head repeated inner) = pos 0
 
 -- stretch or shrink by order, with that of more glue
 abbrev pub with_glue : Change → Option GlueSpec → Orders → Orders

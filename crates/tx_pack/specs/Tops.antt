@@ -4,7 +4,7 @@ use Rattle.tx_node.specs.declared.plain.Plain.{Plain}
 use Rattle.tx_node.specs.declared.plain.Plain.TheVariants.{Kern, Glue, Penalty, Character}
 use Rattle.tx_node.specs.declared.plain.Shared.{Shared}
 use Rattle.tx_node.specs.declared.plain.Shared.TheVariants.{Rule, Leaders, Special, Ligature, Mark}
-use Rattle.tx_node.specs.Items.{Item, plain, shared, boxed, discretionary, adjustment, insertion, PackedBox}
+use Rattle.tx_node.specs.Items.{Item, plain, shared, boxed, discretionary, adjustment, insertion, box_leaders, PackedBox}
 use Rattle.tx_node.specs.Sizes.{side}
 use Rattle.tx_pack.specs.declared.types.Goal.{Goal}
 use Rattle.tx_pack.specs.declared.types.PackParams.{PackParams}
@@ -34,6 +34,7 @@ item_top (boxed shift head inner) = head.height
 item_top (discretionary replaced pre post) = pos 0
 item_top (adjustment inner) = pos 0
 item_top (insertion inserted inner) = pos 0
+item_top (box_leaders head repeated inner) = pos 0
 
 abbrev pub top_of : List Item → ℤ
 top_of [] = pos 0

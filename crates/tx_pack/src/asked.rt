@@ -58,6 +58,7 @@ pub fn height_asked(node: &Node) -> i64
         Node::Shared(item) => i64::from(side(shared_sides(item).height)),
         Node::Box(shift, inner) => i64::from(inner.height()) - i64::from(*shift),
         Node::Discretionary(_) | Node::Adjustment(_) | Node::Insertion(_) => 0,
+        Node::BoxLeaders(leaders) => i64::from(leaders.inner().height()),
     }
 }
 
@@ -70,6 +71,7 @@ pub fn depth_asked(node: &Node) -> i64
         Node::Shared(item) => i64::from(side(shared_sides(item).depth)),
         Node::Box(shift, inner) => i64::from(inner.depth()) + i64::from(*shift),
         Node::Discretionary(_) | Node::Adjustment(_) | Node::Insertion(_) => 0,
+        Node::BoxLeaders(leaders) => i64::from(leaders.inner().depth()),
     }
 }
 
@@ -82,6 +84,7 @@ pub fn width_asked(node: &Node) -> i64
         Node::Shared(item) => i64::from(side(shared_sides(item).width)),
         Node::Box(shift, inner) => i64::from(inner.width()) + i64::from(*shift),
         Node::Discretionary(_) | Node::Adjustment(_) | Node::Insertion(_) => 0,
+        Node::BoxLeaders(leaders) => i64::from(leaders.inner().width()),
     }
 }
 
@@ -121,5 +124,6 @@ pub fn depth_left(depth: i64, node: &Node) -> i64
         Node::Shared(item) => shared_left(depth, item),
         Node::Box(_, inner) => i64::from(inner.depth()),
         Node::Discretionary(_) | Node::Adjustment(_) | Node::Insertion(_) => depth,
+        Node::BoxLeaders(_) => 0,
     }
 }

@@ -17,5 +17,6 @@ mod types;
 mod verdicts;
 
 pub use packing::{extent_of, hpack, vpack};
+pub use sums::{Orders, Sums, sums_of};
 pub use tops::vtop;
 pub use types::{Extent, Goal, PackError, PackParams, Packed};

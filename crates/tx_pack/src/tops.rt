@@ -42,6 +42,7 @@ fn item_top(node: &Node) -> i32
         Node::Shared(item) => shared_top(item),
         Node::Box(_, inner) => inner.height(),
         Node::Discretionary(_) | Node::Adjustment(_) | Node::Insertion(_) => 0,
+        Node::BoxLeaders(_) => 0,
     }
 }
 

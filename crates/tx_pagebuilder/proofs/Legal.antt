@@ -3,7 +3,7 @@ use Rattle.std.proofs.Common.{◌≡◌, ℕ, ℤ, Bool, true, false, cond, List
 use Rattle.std.specs.Prelude.{nat_le, unwrap_or}
 use Rattle.tx_num.specs.Glue.{GlueSpec}
 use Rattle.tx_node.specs.declared.head.InsertHead.{InsertHead}
-use Rattle.tx_node.specs.Items.{Item, plain, shared, boxed, discretionary, adjustment, insertion}
+use Rattle.tx_node.specs.Items.{Item, plain, shared, boxed, discretionary, adjustment, insertion, box_leaders}
 use Rattle.tx_insert.specs.declared.error.SplitError.{SplitError}
 use Rattle.tx_insert.specs.declared.kind.Kind.{Kind}
 use Rattle.tx_insert.specs.declared.kind.Kind.TheVariants.{Solid, Skip, Kern as KernKind, Penalty, Still}
@@ -185,6 +185,7 @@ prepared-leaves page (boxed shift head inner) params = refl
 prepared-leaves page (discretionary head before behind) params = refl
 prepared-leaves page (adjustment inner) params = refl
 prepared-leaves page (insertion head inner) params = inserted-if page head (list_from inner) params (nat_le 255 head.class)
+prepared-leaves page (box_leaders head repeated inner) params = refl
 
 still-by : (best : Option Break) (item : Item) (r : Result Page PageError) → page_best best r ≡ best → grown_best best (still_by item r) ≡ best
 still-by best item (Err e) h = refl

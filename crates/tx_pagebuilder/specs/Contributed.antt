@@ -2,7 +2,7 @@
 use Rattle.std.specs.Prelude.{nat_le, Bool, false, ℤ, pos, List, [], ◌∷◌, length, Option, Some, None, unwrap_or, Result, Ok, Err, if◌then◌else◌}
 use Rattle.tx_num.specs.Glue.{GlueSpec, zero_glue}
 use Rattle.tx_node.specs.declared.head.InsertHead.{InsertHead}
-use Rattle.tx_node.specs.Items.{Item, Items, none, more, plain, shared, boxed, discretionary, adjustment, insertion}
+use Rattle.tx_node.specs.Items.{Item, Items, none, more, plain, shared, boxed, discretionary, adjustment, insertion, box_leaders}
 use Rattle.tx_insert.specs.declared.error.SplitError.{SplitError}
 use Rattle.tx_insert.specs.declared.kind.Kind.{Kind}
 use Rattle.tx_insert.specs.declared.kind.Kind.TheVariants.{Solid, Skip, Kern, Penalty, Still}
@@ -84,6 +84,7 @@ prepared page (boxed shift head inner) params = Ok page
 prepared page (discretionary head before behind) params = Ok page
 prepared page (adjustment inner) params = Ok page
 prepared page (insertion head inner) params = inserted page head (list_from inner) params
+prepared page (box_leaders head repeated inner) params = Ok page
 
 -- what stands still: a mark, a special, an insertion
 abbrev pub still_by : Item → Result Page PageError → Result Grown PageError

@@ -6,7 +6,7 @@ use Rattle.tx_node.specs.declared.head.Direction.TheVariants.{Horizontal, Vertic
 use Rattle.tx_node.specs.declared.head.InsertHead.{InsertHead}
 use Rattle.tx_node.specs.declared.plain.Plain.{Plain}
 use Rattle.tx_node.specs.declared.plain.Plain.TheVariants.{Kern, Glue, Penalty, Character}
-use Rattle.tx_node.specs.Items.{Item, PackedBox, plain, shared, boxed, discretionary, adjustment, insertion, items_of}
+use Rattle.tx_node.specs.Items.{Item, PackedBox, plain, shared, boxed, discretionary, adjustment, insertion, box_leaders, items_of}
 use Rattle.tx_pack.specs.declared.types.Goal.TheVariants.{Natural}
 use Rattle.tx_pack.specs.declared.types.PackError.{PackError}
 use Rattle.tx_pack.specs.declared.types.PackError.TheVariants as packing
@@ -72,6 +72,7 @@ joining number cut place (boxed shift head inner) = []
 joining number cut place (discretionary head before behind) = []
 joining number cut place (adjustment inner) = []
 joining number cut place (insertion head inner) = joining_insertion number cut place head (list_from inner)
+joining number cut place (box_leaders head repeated inner) = []
 
 abbrev pub joining_from : ℕ → Option Cut → ℕ → List Item → List Item
 joining_from number cut place [] = []
@@ -85,6 +86,7 @@ is_of number (boxed shift head inner) = false
 is_of number (discretionary head before behind) = false
 is_of number (adjustment inner) = false
 is_of number (insertion head inner) = head.class == number
+is_of number (box_leaders head repeated inner) = false
 
 abbrev pub is_among : ℕ → List Item → Bool
 is_among number [] = false
@@ -176,6 +178,7 @@ held classes place (boxed shift head inner) = Ok []
 held classes place (discretionary head before behind) = Ok []
 held classes place (adjustment inner) = Ok []
 held classes place (insertion head inner) = held_by (cut_of (class_of head.class classes)) place head (list_from inner) (insertion head inner)
+held classes place (box_leaders head repeated inner) = Ok []
 
 -- and so of all items from a place of the page on, behind what is held already
 abbrev pub behind_items : List Item → (List Item → Result (List Item) PageError) → Result (List Item) PageError → Result (List Item) PageError
@@ -194,6 +197,7 @@ stays_on (boxed shift head inner) = true
 stays_on (discretionary head before behind) = true
 stays_on (adjustment inner) = true
 stays_on (insertion head inner) = false
+stays_on (box_leaders head repeated inner) = true
 
 -- the page above its break: its list, what is held over, and the boxes of classes
 abbrev pub sorted_with : List Item → List Item → Result (List ClassBox) PageError → Result Sorted PageError
@@ -229,6 +233,7 @@ penalty_of (boxed shift head inner) = pos 10000
 penalty_of (discretionary head before behind) = pos 10000
 penalty_of (adjustment inner) = pos 10000
 penalty_of (insertion head inner) = pos 10000
+penalty_of (box_leaders head repeated inner) = pos 10000
 
 abbrev pub output_penalty : List Item → ℤ
 output_penalty [] = pos 10000
@@ -248,6 +253,7 @@ spent (boxed shift head inner) = boxed shift head inner
 spent (discretionary head before behind) = discretionary head before behind
 spent (adjustment inner) = adjustment inner
 spent (insertion head inner) = insertion head inner
+spent (box_leaders head repeated inner) = box_leaders head repeated inner
 
 abbrev pub below : List Item → List Item
 below [] = []

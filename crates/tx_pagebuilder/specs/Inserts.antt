@@ -6,7 +6,7 @@ use Rattle.tx_num.specs.Glue.{GlueSpec}
 use Rattle.tx_node.specs.declared.head.InsertHead.{InsertHead}
 use Rattle.tx_node.specs.declared.plain.Plain.{Plain}
 use Rattle.tx_node.specs.declared.plain.Plain.TheVariants.{Kern, Glue, Penalty, Character}
-use Rattle.tx_node.specs.Items.{Item, plain, shared, boxed, discretionary, adjustment, insertion}
+use Rattle.tx_node.specs.Items.{Item, plain, shared, boxed, discretionary, adjustment, insertion, box_leaders}
 use Rattle.tx_insert.specs.declared.error.SplitError.{SplitError}
 use Rattle.tx_insert.specs.declared.kind.Kind.TheVariants.{Skip}
 use Rattle.tx_insert.specs.declared.sums.Sums.{Sums}
@@ -133,6 +133,7 @@ item_price (boxed shift head inner) = pos 0
 item_price (discretionary head before behind) = pos 0
 item_price (adjustment inner) = pos 0
 item_price (insertion head inner) = pos 0
+item_price (box_leaders head repeated inner) = pos 0
 
 abbrev pub price_at : Option Item → ℤ
 price_at None = neg_ℤ (pos 10000)

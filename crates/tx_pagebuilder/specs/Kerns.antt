@@ -2,7 +2,7 @@
 use Rattle.std.specs.Prelude.{Option, Some, None}
 use Rattle.tx_node.specs.declared.plain.Plain.{Plain}
 use Rattle.tx_node.specs.declared.plain.Plain.TheVariants.{Kern, Glue, Penalty, Character}
-use Rattle.tx_node.specs.Items.{Item, plain, shared, boxed, discretionary, adjustment, insertion}
+use Rattle.tx_node.specs.Items.{Item, plain, shared, boxed, discretionary, adjustment, insertion, box_leaders}
 use Rattle.tx_pagebuilder.specs.declared.kern.Kern.{Kern as KernOf}
 
 -- the kern that an item is
@@ -19,6 +19,7 @@ kern_of (boxed shift head inner) = None
 kern_of (discretionary head before behind) = None
 kern_of (adjustment inner) = None
 kern_of (insertion head inner) = None
+kern_of (box_leaders head repeated inner) = None
 
 abbrev pub kern_item : KernOf → Item
 kern_item kern = plain (Kern kern.kind kern.size)

@@ -267,6 +267,7 @@ impl Page {
             Node::Insertion(inner) => self.insert(&inner.head(), inner.list(), params),
             Node::Plain(_) | Node::Shared(_) | Node::Box(_, _) => Ok(()),
             Node::Discretionary(_) | Node::Adjustment(_) => Ok(()),
+            Node::BoxLeaders(_) => Ok(()),
         }
     }
 

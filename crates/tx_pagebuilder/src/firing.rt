@@ -88,6 +88,7 @@ fn penalty_of(node: &Node) -> i32
         Node::Plain(item) => plain_penalty(item),
         Node::Shared(_) | Node::Box(_, _) => 10_000,
         Node::Discretionary(_) | Node::Adjustment(_) | Node::Insertion(_) => 10_000,
+        Node::BoxLeaders(_) => 10_000,
     }
 }
 
@@ -118,6 +119,7 @@ fn spent(node: &Node) -> Result<Node, AllocError>
         Node::Plain(item) => Ok(Node::Plain(plain_spent(item))),
         Node::Shared(_) | Node::Box(_, _) => node.clone(),
         Node::Discretionary(_) | Node::Adjustment(_) | Node::Insertion(_) => node.clone(),
+        Node::BoxLeaders(_) => node.clone(),
     }
 }
 

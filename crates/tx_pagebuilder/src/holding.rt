@@ -141,6 +141,7 @@ fn hold(
         Node::Insertion(inner) => hold_insertion(alloc, held, classes, place, inner, node),
         Node::Plain(_) | Node::Shared(_) | Node::Box(_, _) => Ok(()),
         Node::Discretionary(_) | Node::Adjustment(_) => Ok(()),
+        Node::BoxLeaders(_) => Ok(()),
     }
 }
 
@@ -169,6 +170,7 @@ fn stays_on(node: &Node) -> bool
         Node::Insertion(_) => false,
         Node::Plain(_) | Node::Shared(_) | Node::Box(_, _) => true,
         Node::Discretionary(_) | Node::Adjustment(_) => true,
+        Node::BoxLeaders(_) => true,
     }
 }
 

@@ -261,6 +261,7 @@ fn item_price(node: &Node) -> i32
         Node::Plain(item) => plain_price(item),
         Node::Shared(_) | Node::Box(_, _) => 0,
         Node::Discretionary(_) | Node::Adjustment(_) | Node::Insertion(_) => 0,
+        Node::BoxLeaders(_) => 0,
     }
 }
 

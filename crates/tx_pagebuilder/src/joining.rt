@@ -94,6 +94,7 @@ fn join(list: &mut Nodes, class: &Class, place: usize, node: &Node) -> Result<()
         Node::Insertion(inner) => join_insertion(list, class, place, inner),
         Node::Plain(_) | Node::Shared(_) | Node::Box(_, _) => Ok(()),
         Node::Discretionary(_) | Node::Adjustment(_) => Ok(()),
+        Node::BoxLeaders(_) => Ok(()),
     }
 }
 
@@ -115,6 +116,7 @@ fn is_of(number: u8, node: &Node) -> bool
         Node::Insertion(inner) => inner.head().class == number,
         Node::Plain(_) | Node::Shared(_) | Node::Box(_, _) => false,
         Node::Discretionary(_) | Node::Adjustment(_) => false,
+        Node::BoxLeaders(_) => false,
     }
 }
 

@@ -32,6 +32,7 @@ pub(crate) fn kern_of(node: &Node) -> Option<Kern>
         Node::Plain(item) => plain_kern(item),
         Node::Shared(_) | Node::Box(_, _) => None,
         Node::Discretionary(_) | Node::Adjustment(_) | Node::Insertion(_) => None,
+        Node::BoxLeaders(_) => None,
     }
 }
 

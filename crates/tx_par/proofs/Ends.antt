@@ -11,7 +11,7 @@ use Rattle.tx_node.specs.declared.plain.KernKind.{KernKind}
 use Rattle.tx_node.specs.declared.plain.KernKind.TheVariants as kerns
 use Rattle.tx_node.specs.declared.plain.Plain.TheVariants as plains
 use Rattle.tx_node.specs.declared.plain.Shared.TheVariants as larges
-use Rattle.tx_node.specs.Items.{Item, plain, shared, boxed, discretionary, adjustment, insertion}
+use Rattle.tx_node.specs.Items.{Item, plain, shared, boxed, discretionary, adjustment, insertion, box_leaders}
 use Rattle.tx_node.specs.Nodes.{item_of, list_of}
 use Rattle.tx_par.specs.Pieces.{kern_piece, piece_of, pieces_of}
 
@@ -41,6 +41,7 @@ replaces (MathOff w) = 0
 few-kern : (left : ℕ) (kind : KernKind) (size : ℤ) → replaces (kern_piece kind size) ≤ left
 unfolding replaces
 few-kern left kerns.Implicit size = omega arith
+few-kern left kerns.Accent size = omega arith
 few-kern left kerns.Explicit size = omega arith
 few-kern left kerns.MathOn size = omega arith
 few-kern left kerns.MathOff size = omega arith
@@ -60,6 +61,7 @@ few left (boxed shift head inner) = omega arith
 few left (discretionary head before behind) = omega arith
 few left (adjustment inner) = omega arith
 few left (insertion head inner) = omega arith
+few left (box_leaders head repeated inner) = omega arith
 
 fewer-by : (n : ℕ) (context : Context) (piece : Piece) (left : ℕ) → n ≡ context.replaced → n ≤ suc left → replaces piece ≤ left → (behind_piece n context piece).replaced ≤ left
 unfolding replaces

@@ -96,7 +96,7 @@ one-answer = refl
 abbrev one_line : Item
 one_line = boxed (pos 0) (head (pt 90) (pt 5) (Set (record { change = Stretch; order = 1; total = pt 1; excess = pt 50 }))) (items_of (bar ∷ last_end fil))
 
-one-line : lines_of (ended fil (bar ∷ [])) wide (initex fil) (answer_is (3 ∷ []) (pos 0) 1 []) ≡ Ok (record { nodes = one_line ∷ []; chosen = answer_is (3 ∷ []) (pos 0) 1 []; depth = pos 0; badness = pos 0; report = [] })
+one-line : lines_of (ended fil (bar ∷ [])) wide (initex fil) (answer_is (3 ∷ []) (pos 0) 1 []) ≡ Ok (record { nodes = one_line ∷ []; last = 0; chosen = answer_is (3 ∷ []) (pos 0) 1 []; depth = pos 0; badness = pos 0; report = [] })
 unfolding lines_of line_to set_line packed start_of
 one-line = refl
 
@@ -120,7 +120,7 @@ first_line = boxed (pos 0) (head (pt 90) (pos 0) Natural) (items_of (empty_box (
 abbrev second_line : Item
 second_line = boxed (pos 0) (head (pt 90) (pos 0) Natural) (items_of (empty_box (pt 40) ∷ rigid_glue (pt 10) ∷ empty_box (pt 40) ∷ last_end no_glue))
 
-two-lines : lines_of (ended no_glue three_boxes) wide (initex no_glue) by_two ≡ Ok (record { nodes = first_line ∷ plain (Glue no_glue) ∷ second_line ∷ []; chosen = by_two; depth = pos 0; badness = pos 0; report = underfull ++ [] })
+two-lines : lines_of (ended no_glue three_boxes) wide (initex no_glue) by_two ≡ Ok (record { nodes = first_line ∷ plain (Glue no_glue) ∷ second_line ∷ []; last = 2; chosen = by_two; depth = pos 0; badness = pos 0; report = underfull ++ [] })
 unfolding lines_of line_to set_line packed start_of
 two-lines = refl
 
@@ -135,7 +135,7 @@ forced-answer = refl
 abbrev forced_line : Item
 forced_line = boxed (pos 0) (head (pt 90) (pos 0) Natural) (items_of (empty_box (pt 100) ∷ last_end no_glue))
 
-forced-line : lines_of (ended no_glue (empty_box (pt 100) ∷ [])) wide (initex no_glue) by_force ≡ Ok (record { nodes = forced_line ∷ []; chosen = by_force; depth = pos 0; badness = pos 1000000; report = codes "overfull hbox " ++ (scaled_text_of (pt 10) ++ codes "pt") ++ 10 ∷ [] })
+forced-line : lines_of (ended no_glue (empty_box (pt 100) ∷ [])) wide (initex no_glue) by_force ≡ Ok (record { nodes = forced_line ∷ []; last = 0; chosen = by_force; depth = pos 0; badness = pos 1000000; report = codes "overfull hbox " ++ (scaled_text_of (pt 10) ++ codes "pt") ++ 10 ∷ [] })
 unfolding lines_of line_to set_line packed start_of
 forced-line = refl
 
@@ -188,6 +188,7 @@ end_line =
 
 three-lines : lines_of (ended no_glue divided) shapes set_params by_three ≡ Ok (record {
   nodes = broken_line ∷ penalty (pos 77) ∷ penalty (pos 11) ∷ rigid_glue (pt 12) ∷ kern_line ∷ penalty (pos 5) ∷ rigid_glue (pt 12) ∷ end_line ∷ [];
+  last = 7;
   chosen = by_three;
   depth = pos 0;
   badness = pos 10000;

@@ -7,7 +7,7 @@ use Rattle.tx_node.specs.declared.plain.Plain.{Plain}
 use Rattle.tx_node.specs.declared.plain.Plain.TheVariants.{Kern, Glue, Penalty, Character}
 use Rattle.tx_node.specs.declared.plain.Shared.{Shared}
 use Rattle.tx_node.specs.declared.plain.Shared.TheVariants.{Rule, Leaders, Special, Ligature, Mark}
-use Rattle.tx_node.specs.Items.{Item, none, plain, shared, boxed, discretionary, adjustment, insertion}
+use Rattle.tx_node.specs.Items.{Item, none, plain, shared, boxed, discretionary, adjustment, insertion, box_leaders}
 use Rattle.tx_nest.specs.Lasts.{list_from}
 use Rattle.tx_par.specs.declared.line.Line.{Line}
 
@@ -30,6 +30,7 @@ text_behind (Some (boxed shift head inner)) = []
 text_behind (Some (discretionary head before behind)) = list_from behind
 text_behind (Some (adjustment inner)) = []
 text_behind (Some (insertion head inner)) = []
+text_behind (Some (box_leaders head repeated inner)) = []
 
 -- that of a break, if the line doesn't begin the list
 abbrev pub carried : List Item → Option ℕ → List Item
@@ -45,6 +46,7 @@ stays first_pass (boxed shift head inner) = true
 stays first_pass (discretionary head before behind) = not (first_pass && head.hyphenated)
 stays first_pass (adjustment inner) = true
 stays first_pass (insertion head inner) = true
+stays first_pass (box_leaders head repeated inner) = true
 
 -- what an item at the break that ends a line leaves there: glue vanishes, a kern takes no width, and a discretionary is empty and
 -- before its text; nothing stands at the list's end
@@ -72,6 +74,7 @@ left_at (Some (boxed shift head inner)) = boxed shift head inner ∷ []
 left_at (Some (discretionary head before behind)) = empty_discretionary ∷ list_from before
 left_at (Some (adjustment inner)) = adjustment inner ∷ []
 left_at (Some (insertion head inner)) = insertion head inner ∷ []
+left_at (Some (box_leaders head repeated inner)) = []
 
 -- the items between a break, or the list's beginning, and a break
 abbrev pub between : Bool → List Item → List Piece → Option ℕ → ℕ → List Item
@@ -105,6 +108,7 @@ with_item line (boxed shift head inner) = with_own line (boxed shift head inner)
 with_item line (discretionary head before behind) = with_own line (discretionary head before behind)
 with_item line (adjustment inner) = with_behind line (list_from inner)
 with_item line (insertion head inner) = with_behind line (insertion head inner ∷ [])
+with_item line (box_leaders head repeated inner) = with_own line (box_leaders head repeated inner)
 
 abbrev pub with_items : Line → List Item → Line
 with_items line items = fold with_item line items

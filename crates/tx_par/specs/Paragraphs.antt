@@ -59,6 +59,7 @@ with_lines t from lines (place ∷ places) so_far =
 abbrev pub none_so_far : ParParams → SoFar
 none_so_far params = record {
   list = record { state = InternalVertical params.prev_depth; nodes = []; prev_graf = 0 };
+  last = 0;
   badness = pos 0;
   report = [];
 }
@@ -78,6 +79,7 @@ abbrev pub lines_told : Chosen → Result SoFar ParError → Result Lines ParErr
 lines_told chosen (Err e) = Err e
 lines_told chosen (Ok so_far) = Ok (record {
   nodes = so_far.list.nodes;
+  last = so_far.last;
   chosen = chosen;
   depth = unwrap_or (prev_depth so_far.list.state) (pos 0);
   badness = so_far.badness;

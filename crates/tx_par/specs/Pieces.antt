@@ -4,20 +4,21 @@ use Rattle.std.specs.Int.{int_max, int_min}
 use Rattle.tx_linebreak.specs.declared.piece.Piece.{Piece}
 use Rattle.tx_linebreak.specs.declared.piece.Piece.TheVariants as piece
 use Rattle.tx_node.specs.declared.plain.KernKind.{KernKind}
-use Rattle.tx_node.specs.declared.plain.KernKind.TheVariants.{Implicit, Explicit, MathOn, MathOff}
+use Rattle.tx_node.specs.declared.plain.KernKind.TheVariants.{Accent, Implicit, Explicit, MathOn, MathOff}
 use Rattle.tx_node.specs.declared.plain.Plain.{Plain}
 use Rattle.tx_node.specs.declared.plain.Plain.TheVariants.{Kern, Glue, Penalty, Character}
 use Rattle.tx_node.specs.declared.plain.Shared.{Shared}
 use Rattle.tx_node.specs.declared.plain.Shared.TheVariants.{Rule, Leaders, Special, Ligature, Mark}
 use Rattle.tx_node.specs.declared.head.BreakHead.{BreakHead}
 use Rattle.tx_node.specs.declared.head.Direction.TheVariants.{Horizontal}
-use Rattle.tx_node.specs.Items.{Item, plain, shared, boxed, discretionary, adjustment, insertion}
+use Rattle.tx_node.specs.Items.{Item, plain, shared, boxed, discretionary, adjustment, insertion, box_leaders}
 use Rattle.tx_node.specs.Sizes.{advance, side}
 use Rattle.tx_nest.specs.Lasts.{list_from}
 
 -- a kern is discardable only where it is explicit, or at one end of a formula
 abbrev pub kern_piece : KernKind → ℤ → Piece
 kern_piece Implicit size = piece.Solid size
+kern_piece Accent size = piece.Solid size
 kern_piece Explicit size = piece.Kern size
 kern_piece MathOn size = piece.MathOn size
 kern_piece MathOff size = piece.MathOff size
@@ -68,6 +69,7 @@ piece_of left (boxed shift head inner) = piece.Solid head.width
 piece_of left (discretionary head before behind) = discretionary_piece left head (list_from before) (list_from behind)
 piece_of left (adjustment inner) = piece.Solid (pos 0)
 piece_of left (insertion head inner) = piece.Solid (pos 0)
+piece_of left (box_leaders head repeated inner) = piece.Glue head.glue
 
 -- the pieces of an ended list, one for each item, and the penalty that forces the last break, which leaves nothing in the list
 abbrev pub pieces_of : List Item → List Piece

@@ -1,5 +1,5 @@
 -- A line in the vertical list (TeX: The Program, sections 888 to 890).
-use Rattle.std.specs.Prelude.{ℕ, zero, suc, ◌==◌, nat_le, ℤ, pos, ◌+ℤ◌, unsigned_abs, Bool, ◌&&◌, if◌then◌else◌, List, [], ◌∷◌, ◌++◌, Result, Ok, Err}
+use Rattle.std.specs.Prelude.{ℕ, zero, suc, ◌-◌, ◌==◌, nat_le, ℤ, pos, ◌+ℤ◌, unsigned_abs, Bool, ◌&&◌, if◌then◌else◌, List, [], ◌∷◌, ◌++◌, length, Result, Ok, Err}
 use Rattle.tx_num.specs.Limits.{limit}
 use Rattle.tx_num.specs.declared.limits.Range.TheVariants.{Integer}
 use Rattle.tx_linebreak.specs.declared.params.LineShape.{LineShape}
@@ -52,11 +52,11 @@ line_indent (shape ∷ next ∷ shapes) (suc lines) = line_indent (next ∷ shap
 abbrev pub line_box : PackParams → ℤ → ℤ → List Item → Result Packed PackError
 line_box params indent width own = if fits indent && fits width then hpacked own (To width) params else Err packing.SizeOutOfRange
 
--- behind the box stands the vertical material of the line
+-- behind the box, which is the last line so far, stands the vertical material of the line
 abbrev pub told_of : SoFar → Packed → List Item → Result ModeList NestError → Result SoFar ParError
 told_of so_far packed behind (Err e) = Err (of_leading e)
 told_of so_far packed behind (Ok list) =
-    Ok (record { list = with_items list behind; badness = packed.badness; report = so_far.report ++ packed.report })
+    Ok (record { list = with_items list behind; last = length list.nodes - 1; badness = packed.badness; report = so_far.report ++ packed.report })
 
 -- the box is shifted by the line's indent, and stands behind its leading
 abbrev pub placed : ParParams → SoFar → ℤ → List Item → Result Packed PackError → Result SoFar ParError

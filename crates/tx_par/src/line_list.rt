@@ -25,6 +25,7 @@ fn stays(first_pass: bool, node: &Node) -> bool
         Node::Discretionary(broken) => !(first_pass && broken.is_hyphenated()),
         Node::Plain(_) | Node::Shared(_) | Node::Box(_, _) => true,
         Node::Adjustment(_) | Node::Insertion(_) => true,
+        Node::BoxLeaders(_) => true,
     }
 }
 
@@ -68,6 +69,7 @@ impl Line {
             Node::Shared(item) => self.share_larger(node, item),
             Node::Adjustment(list) => share_all(&mut self.behind, list.as_slice()),
             Node::Insertion(_) => self.share_behind(node),
+            Node::BoxLeaders(_) => self.share_own(node),
         }
     }
 
@@ -152,6 +154,7 @@ impl Line {
             Node::Discretionary(broken) => self.share_text(broken.behind()),
             Node::Plain(_) | Node::Shared(_) | Node::Box(_, _) => Ok(()),
             Node::Adjustment(_) | Node::Insertion(_) => Ok(()),
+            Node::BoxLeaders(_) => Ok(()),
         }
     }
 
@@ -222,6 +225,7 @@ impl Line {
             Node::Shared(item) => self.share_larger_left(node, item),
             Node::Discretionary(broken) => self.share_broken(alloc, broken),
             Node::Box(_, _) | Node::Adjustment(_) | Node::Insertion(_) => self.share(node),
+            Node::BoxLeaders(_) => Ok(()),
         }
     }
 

@@ -17,7 +17,7 @@ fn kern_piece(kind: KernKind, size: i32) -> Piece
     ensures { result ≡ spec.kern_piece kind size }
 {
     match kind {
-        KernKind::Implicit => Piece::Solid(size),
+        KernKind::Implicit | KernKind::Accent => Piece::Solid(size),
         KernKind::Explicit => Piece::Kern(size),
         KernKind::MathOn => Piece::MathOn(size),
         KernKind::MathOff => Piece::MathOff(size),
@@ -110,6 +110,7 @@ fn piece_of(left: usize, node: &Node) -> Piece
         Node::Box(_, inner) => Piece::Solid(inner.width()),
         Node::Discretionary(broken) => discretionary_piece(left, broken),
         Node::Adjustment(_) | Node::Insertion(_) => Piece::Solid(0),
+        Node::BoxLeaders(leaders) => Piece::Glue(leaders.head().glue),
     }
 }
 

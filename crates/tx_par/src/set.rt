@@ -46,6 +46,7 @@ fn none_so_far(alloc: Global, params: &ParParams) -> SoFar
             nodes: Nodes::new(alloc),
             prev_graf: 0,
         },
+        last: 0,
         badness: 0,
         report: Bytes::new(alloc),
     }
@@ -134,12 +135,14 @@ fn told(so_far: SoFar, chosen: Chosen) -> Lines
 {
     let SoFar {
         list,
+        last,
         badness,
         report,
     } = so_far;
     let depth = list.state.prev_depth().unwrap_or(0);
     Lines {
         nodes: list.nodes,
+        last,
         chosen,
         depth,
         badness,

@@ -97,6 +97,7 @@ fn put_box(
         indent as i32,
         node,
     )?;
+    so_far.last = so_far.list.nodes.len().saturating_sub(1);
     append_items(&mut so_far.list, behind)?;
     so_far.badness = badness;
     so_far.report.append(report.as_slice())?;

@@ -7,14 +7,15 @@ use Rattle.tx_par.specs.declared.error.ParError.{ParError}
 use Rattle.tx_par.specs.declared.error.ParError.TheVariants.{OutOfMemory}
 use Rattle.tx_par.specs.declared.lines.Lines.{Lines as Set}
 use Rattle.tx_box.specs.declared.parts.Lists.{Lists}
+use Rattle.tx_paragraph.specs.declared.last_line.LastLine.TheVariants.{OfParagraph}
 use Rattle.tx_paragraph.specs.Ending.{Left, first_of, left, lines_if, set_list, setting, used_after}
 use Rattle.tx_paragraph.specs.Hyphens.{Hyphenating}
 
 -- a list that has these lines is set as they are
-pub set-so : (h : Hyphenating) (lists : Lists) (table : Eqtb) (passed : ℕ) (list : List Item) (set : Set) (depth d : ℤ) → d ≡ depth → lines_if h table.table d passed list ≡ Ok set
-    → setting (used_after (first_of table.table d passed list) h.known) lists table passed (Ok set) ≡ set_list h depth passed list lists table
+pub set-so : (h : Hyphenating) (lists : Lists) (table : Eqtb) (passed : ℕ) (list : List Item) (set : Set) (depth d : ℤ) → d ≡ depth → lines_if h OfParagraph table.table d passed list ≡ Ok set
+    → setting (used_after (first_of OfParagraph table.table d passed list) h.known) lists table passed (Ok set) ≡ set_list h depth passed list lists table
 set-so h lists table passed list set depth d same lines =
-    sym (ap (λ (o : Result Set ParError). setting (used_after (first_of table.table d passed list) h.known) lists table passed o) lines)
+    sym (ap (λ (o : Result Set ParError). setting (used_after (first_of OfParagraph table.table d passed list) h.known) lists table passed o) lines)
     ∙ ap (λ (z : ℤ). set_list h z passed list lists table) same
 
 pub left-so : (r : Result (List ℕ) ParError) (known known' : Hyphenation) (lists lists' : Lists) (table table' : Eqtb) (passed : ℕ) (set : Set) (whole : Result Left ParError)

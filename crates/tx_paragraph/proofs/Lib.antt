@@ -1,4 +1,5 @@
 mod Settings
 pub mod Filled
+mod Cutting
 mod Keeping
 mod Told

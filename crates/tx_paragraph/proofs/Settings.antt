@@ -5,18 +5,19 @@ use Rattle.tx_linebreak.specs.declared.params.LineShape.{LineShape}
 use Rattle.tx_node.specs.Items.{Item}
 use Rattle.tx_par.specs.declared.params.ParParams.{ParParams}
 use Rattle.tx_par.specs.Paragraphs.{first_lines, paragraph}
+use Rattle.tx_paragraph.specs.declared.last_line.LastLine.{LastLine}
 use Rattle.tx_paragraph.specs.Ending.{first_of, later_of}
 use Rattle.tx_paragraph.specs.Parameters.{later_params, params_of}
 use Rattle.tx_paragraph.specs.Shapes.{shape_of}
 
-pub first-so : (table : Table) (depth : ℤ) (passed : ℕ) (list : List Item) (shape : List LineShape) (params : ParParams) → shape ≡ shape_of table passed list → params ≡ params_of table depth → first_of table depth passed list ≡ first_lines list shape params
+pub first-so : (last : LastLine) (table : Table) (depth : ℤ) (passed : ℕ) (list : List Item) (shape : List LineShape) (params : ParParams) → shape ≡ shape_of table passed list → params ≡ params_of last table depth → first_of last table depth passed list ≡ first_lines list shape params
 unfolding first_of
-first-so table depth passed list shape params shaped given =
-    subst (λ (s : List LineShape). first_lines list (shape_of table passed list) (params_of table depth) ≡ first_lines list s params) (sym shaped)
-    (subst (λ (p : ParParams). first_lines list (shape_of table passed list) (params_of table depth) ≡ first_lines list (shape_of table passed list) p) (sym given) refl)
+first-so last table depth passed list shape params shaped given =
+    subst (λ (s : List LineShape). first_lines list (shape_of table passed list) (params_of last table depth) ≡ first_lines list s params) (sym shaped)
+    (subst (λ (p : ParParams). first_lines list (shape_of table passed list) (params_of last table depth) ≡ first_lines list (shape_of table passed list) p) (sym given) refl)
 
-pub later-so : (table : Table) (depth : ℤ) (passed : ℕ) (list : List Item) (shape : List LineShape) (params : ParParams) → shape ≡ shape_of table passed list → params ≡ later_params (params_of table depth) → later_of table depth passed list ≡ paragraph list shape params
+pub later-so : (last : LastLine) (table : Table) (depth : ℤ) (passed : ℕ) (list : List Item) (shape : List LineShape) (params : ParParams) → shape ≡ shape_of table passed list → params ≡ later_params (params_of last table depth) → later_of last table depth passed list ≡ paragraph list shape params
 unfolding later_of
-later-so table depth passed list shape params shaped given =
-    subst (λ (s : List LineShape). paragraph list (shape_of table passed list) (later_params (params_of table depth)) ≡ paragraph list s params) (sym shaped)
-    (subst (λ (p : ParParams). paragraph list (shape_of table passed list) (later_params (params_of table depth)) ≡ paragraph list (shape_of table passed list) p) (sym given) refl)
+later-so last table depth passed list shape params shaped given =
+    subst (λ (s : List LineShape). paragraph list (shape_of table passed list) (later_params (params_of last table depth)) ≡ paragraph list s params) (sym shaped)
+    (subst (λ (p : ParParams). paragraph list (shape_of table passed list) (later_params (params_of last table depth)) ≡ paragraph list (shape_of table passed list) p) (sym given) refl)

@@ -25,6 +25,8 @@ use Rattle.tx_seen.specs.declared.place.Place.TheVariants.{Dimension}
 use Rattle.tx_box.specs.declared.parts.Lists.{Lists}
 use Rattle.tx_box.specs.Building.{plain_shape}
 use Rattle.tx_box.specs.Placing.{with_list}
+use Rattle.tx_paragraph.specs.declared.last_line.LastLine.{LastLine}
+use Rattle.tx_paragraph.specs.declared.last_line.LastLine.TheVariants.{OfParagraph}
 use Rattle.tx_paragraph.specs.Hyphens.{Hyphenating, ways_of}
 use Rattle.tx_paragraph.specs.Parameters.{later_params, params_of}
 use Rattle.tx_paragraph.specs.Shapes.{shape_of}
@@ -36,14 +38,14 @@ par_error par.TooDeep = TooDeep
 par_error par.EndlessShrink = InfiniteShrink
 par_error par.OutOfMemory = SizeOutOfRange
 
--- the first pass goes over a list as it stands, behind so much \prevdepth and so many lines that have passed; None where it isn't
--- made, or doesn't give the answer
-unfoldable pub first_of : Table → ℤ → ℕ → List Item → Option (Result Set ParError)
-first_of table depth passed list = first_lines list (shape_of table passed list) (params_of table depth)
+-- the first pass goes over a list as it stands, of which this is the last line, behind so much \prevdepth and so many lines that have
+-- passed; None where it isn't made, or doesn't give the answer
+unfoldable pub first_of : LastLine → Table → ℤ → ℕ → List Item → Option (Result Set ParError)
+first_of last table depth passed list = first_lines list (shape_of table passed list) (params_of last table depth)
 
 -- the others go over the list with its words hyphenated (section 863)
-unfoldable pub later_of : Table → ℤ → ℕ → List Item → Result Set ParError
-later_of table depth passed list = paragraph list (shape_of table passed list) (later_params (params_of table depth))
+unfoldable pub later_of : LastLine → Table → ℤ → ℕ → List Item → Result Set ParError
+later_of last table depth passed list = paragraph list (shape_of table passed list) (later_params (params_of last table depth))
 
 -- what is told of hyphens that their fonts lack stands before what is told of the lines
 abbrev pub told_first : List ℕ → Result Set ParError → Result Set ParError
@@ -51,22 +53,22 @@ told_first report (Err error) = Err error
 told_first report (Ok set) = Ok (record set { report = report ++ set.report })
 
 -- the lines of what hyphenation made of a list
-abbrev pub lines_made : Table → ℤ → ℕ → Made → Result Set ParError
-lines_made table depth passed made = told_first made.report (later_of table depth passed made.items)
+abbrev pub lines_made : LastLine → Table → ℤ → ℕ → Made → Result Set ParError
+lines_made last table depth passed made = told_first made.report (later_of last table depth passed made.items)
 
 abbrev pub lines_after : Option (Result Set ParError) → Result Set ParError → Result Set ParError
 lines_after None later = later
 lines_after (Some outcome) later = outcome
 
 -- the lines of a list
-abbrev pub lines_of : Hyphenating → Table → ℤ → ℕ → List Item → Result Set ParError
-lines_of h table depth passed list =
-    lines_after (first_of table depth passed list) (lines_made table depth passed (hyphenated (ways_of h table) list))
+abbrev pub lines_of : Hyphenating → LastLine → Table → ℤ → ℕ → List Item → Result Set ParError
+lines_of h last table depth passed list =
+    lines_after (first_of last table depth passed list) (lines_made last table depth passed (hyphenated (ways_of h table) list))
 
 -- \overfullrule is a dimension, whatever is assigned
-abbrev pub lines_if : Hyphenating → Table → ℤ → ℕ → List Item → Result Set ParError
-lines_if h table depth passed list =
-    if fits (number_at table (Dimension Overfullrule)) then lines_of h table depth passed list else Err par.SizeOutOfRange
+abbrev pub lines_if : Hyphenating → LastLine → Table → ℤ → ℕ → List Item → Result Set ParError
+lines_if h last table depth passed list =
+    if fits (number_at table (Dimension Overfullrule)) then lines_of h last table depth passed list else Err par.SizeOutOfRange
 
 -- once a second pass began, no pattern can be added any more (section 891)
 abbrev pub used_after : Option (Result Set ParError) → Hyphenation → Hyphenation
@@ -107,7 +109,7 @@ depth_of state = unwrap_or (prev_depth state) (pos 0)
 -- a list in the lists around it, behind so much \prevdepth and so many lines that have passed
 abbrev pub set_list : Hyphenating → ℤ → ℕ → List Item → Lists → Eqtb → Result Left ParError
 set_list h depth passed list lists table =
-    setting (used_after (first_of table.table depth passed list) h.known) lists table passed (lines_if h table.table depth passed list)
+    setting (used_after (first_of OfParagraph table.table depth passed list) h.known) lists table passed (lines_if h OfParagraph table.table depth passed list)
 
 -- a paragraph's list in the lists around it, where so many lines have passed; of an empty one only \prevgraf stays
 abbrev pub ended_list : Hyphenating → ℕ → List Item → Lists → Eqtb → Result Left ParError

@@ -3,3 +3,4 @@ pub mod Shapes
 pub mod Parameters
 pub mod Hyphens
 pub mod Ending
+pub mod Interrupting

@@ -6,10 +6,13 @@ use Rattle.tx_linebreak.specs.declared.params.BreakParams.{BreakParams}
 use Rattle.tx_par.specs.declared.params.ParParams.{ParParams}
 use Rattle.tx_prim.specs.declared.dimension.DimensionParameter.TheVariants.{Emergencystretch}
 use Rattle.tx_prim.specs.declared.glue.GlueParameter.TheVariants.{Leftskip, Parfillskip, Rightskip}
-use Rattle.tx_prim.specs.declared.integer.IntegerParameter.TheVariants.{Adjdemerits, Brokenpenalty, Clubpenalty, Doublehyphendemerits, Exhyphenpenalty, Finalhyphendemerits, Hyphenpenalty, Interlinepenalty, Linepenalty, Looseness, Pretolerance, Tolerance, Widowpenalty}
+use Rattle.tx_prim.specs.declared.integer.IntegerParameter.{IntegerParameter}
+use Rattle.tx_prim.specs.declared.integer.IntegerParameter.TheVariants.{Adjdemerits, Brokenpenalty, Clubpenalty, Displaywidowpenalty, Doublehyphendemerits, Exhyphenpenalty, Finalhyphendemerits, Hyphenpenalty, Interlinepenalty, Linepenalty, Looseness, Pretolerance, Tolerance, Widowpenalty}
 use Rattle.tx_seen.specs.declared.place.Place.TheVariants.{Dimension, Glue, Integer}
 use Rattle.tx_box.specs.Building.{across}
 use Rattle.tx_box.specs.Placing.{leading_of}
+use Rattle.tx_paragraph.specs.declared.last_line.LastLine.{LastLine}
+use Rattle.tx_paragraph.specs.declared.last_line.LastLine.TheVariants.{OfParagraph, BeforeDisplay}
 
 -- how its lines are broken
 abbrev pub breaking_of : Table → BreakParams
@@ -35,16 +38,21 @@ later_breaking params = record params { pretolerance = negsuc 0 }
 abbrev pub later_params : ParParams → ParParams
 later_params params = record params { breaking = later_breaking params.breaking }
 
+-- the penalty before the last line of a paragraph, or before the last one that a displayed formula follows (section 890)
+abbrev pub widow_of : LastLine → IntegerParameter
+widow_of OfParagraph = Widowpenalty
+widow_of BeforeDisplay = Displaywidowpenalty
+
 -- all of it, behind so much \prevdepth
-abbrev pub params_of : Table → ℤ → ParParams
-params_of table prev_depth = record {
+abbrev pub params_of : LastLine → Table → ℤ → ParParams
+params_of last table prev_depth = record {
   breaking = breaking_of table;
   packing = across table;
   leading = leading_of table;
   par_fill_skip = glue_at table (Glue Parfillskip);
   inter_line_penalty = number_at table (Integer Interlinepenalty);
   club_penalty = number_at table (Integer Clubpenalty);
-  widow_penalty = number_at table (Integer Widowpenalty);
+  widow_penalty = number_at table (Integer (widow_of last));
   broken_penalty = number_at table (Integer Brokenpenalty);
   prev_depth = prev_depth;
 }

@@ -1,5 +1,5 @@
 -- The shapes of a paragraph's lines (TeX: The Program, sections 847 to 849; The TeXbook, chapter 14).
-use Rattle.std.specs.Prelude.{ℕ, ◌+◌, ◌-◌, min, ℤ, pos, ◌-ℤ◌, ◌==◌, int_lt, int_le, unsigned_abs, if◌then◌else◌, List, [], ◌∷◌, ◌++◌, drop, length, replicate}
+use Rattle.std.specs.Prelude.{ℕ, ◌+◌, ◌-◌, min, nat_lt, nat_le, ℤ, pos, ◌-ℤ◌, ◌==◌, int_lt, int_le, unsigned_abs, Bool, if◌then◌else◌, List, [], ◌∷◌, ◌++◌, drop, length, replicate, slice_get, unwrap_or}
 use Rattle.tx_eqtb.specs.declared.table.Table.{Table}
 use Rattle.tx_eqtb.specs.Table.{number_at}
 use Rattle.tx_linebreak.specs.declared.params.LineShape.{LineShape}
@@ -62,3 +62,24 @@ shape_told table passed list lines = if length lines == 0 then hung_lines table 
 -- the shapes of a list's lines behind so many that have passed
 abbrev pub shape_of : Table → ℕ → List Item → List LineShape
 shape_of table passed list = shape_told table passed list (told_lines table.par_shape)
+
+-- one line of a paragraph by its number, counted from 1, as a display asks for it (section 1149): the first one that hangs is the one
+-- behind \hangafter, or the first of all where that is negative
+abbrev pub is_hung : ℤ → ℕ → Bool
+is_hung after line = if int_le (pos 0) after then nat_lt (unsigned_abs after) line else nat_le line (unsigned_abs after)
+
+abbrev pub line_by : ℤ → ℤ → ℤ → ℕ → LineShape
+line_by size hang after line =
+    if unsigned_abs hang == 0 then plain_line size
+    else if is_hung after line then hanging_line size hang
+    else plain_line size
+
+abbrev pub hung_line : Table → ℕ → LineShape
+hung_line table line =
+    line_by (number_at table (Dimension Hsize)) (number_at table (Dimension Hangindent)) (number_at table (Integer Hangafter)) line
+
+abbrev pub told_line : List LineShape → ℕ → LineShape → LineShape
+told_line lines line other = unwrap_or (slice_get lines (min (line - 1) (length lines - 1))) other
+
+abbrev pub line_at : Table → ℕ → LineShape
+line_at table line = told_line (told_lines table.par_shape) line (hung_line table line)

@@ -9,6 +9,7 @@ ghost use Rattle.tx_paragraph.specs.Ending as spec;
 ghost use Rattle.tx_paragraph.specs.Hyphens.{ways_of};
 
 use crate::hyphens::{hyphen_params, lower_codes};
+use crate::last_line::LastLine;
 use crate::parameters::{later_params, params_of};
 use crate::shapes::shape_of;
 use std::alloc::{AllocError, Global};
@@ -21,43 +22,47 @@ use tx_node::Nodes;
 use tx_num::Range;
 use tx_par::{Lines, ParError, first_lines, paragraph};
 use tx_prim::{DimensionParameter, Mode};
+use tx_seen::TexError;
 use tx_tfm::Fonts;
 
-/// What the first pass makes of a list, behind so much \prevdepth, in sp, and so many lines that have passed.
+/// What the first pass makes of a list of which this is the last line, behind so much \prevdepth, in sp, and so many lines that have
+/// passed.
 fn lines_first(
     alloc: Global,
+    last: LastLine,
     table: &Eqtb,
     prev_depth: i32,
     passed: u32,
     list: &Nodes,
 ) -> Result<Option<Lines>, ParError>
     requires rule { IsDimension (across table.now.table).overfull_rule }
-    ensures none { IfOk result (λ found. IfNone found (spec.first_of table.now.table prev_depth passed list.now ≡ None)) }
-    ensures some { IfOk result (λ found. IfSome found (λ set. spec.first_of table.now.table prev_depth passed list.now ≡ Some (Ok set))) }
-    ensures error { IfErr result (λ e. e ≢ OutOfMemory → spec.first_of table.now.table prev_depth passed list.now ≡ Some (Err e)) }
+    ensures none { IfOk result (λ found. IfNone found (spec.first_of last table.now.table prev_depth passed list.now ≡ None)) }
+    ensures some { IfOk result (λ found. IfSome found (λ set. spec.first_of last table.now.table prev_depth passed list.now ≡ Some (Ok set))) }
+    ensures error { IfErr result (λ e. e ≢ OutOfMemory → spec.first_of last table.now.table prev_depth passed list.now ≡ Some (Err e)) }
 {
     let shape = shape_of(alloc, table, passed, list)?;
-    first_lines(alloc, list, &shape, &params_of(table, prev_depth))
+    first_lines(alloc, list, &shape, &params_of(last, table, prev_depth))
 }
 
 /// What the others make of a list whose words are hyphenated.
 fn lines_later(
     alloc: Global,
+    last: LastLine,
     table: &Eqtb,
     prev_depth: i32,
     passed: u32,
     list: Nodes,
 ) -> Result<Lines, ParError>
     requires rule { IsDimension (across table.now.table).overfull_rule }
-    ensures lines { IfOk result (λ set. spec.later_of table.now.table prev_depth passed list ≡ Ok set) }
-    ensures error { IfErr result (λ e. e ≢ OutOfMemory → spec.later_of table.now.table prev_depth passed list ≡ Err e) }
+    ensures lines { IfOk result (λ set. spec.later_of last table.now.table prev_depth passed list ≡ Ok set) }
+    ensures error { IfErr result (λ e. e ≢ OutOfMemory → spec.later_of last table.now.table prev_depth passed list ≡ Err e) }
 {
     let shape = shape_of(alloc, table, passed, &list)?;
     paragraph(
         alloc,
         list,
         &shape,
-        &later_params(params_of(table, prev_depth)),
+        &later_params(params_of(last, table, prev_depth)),
     )
 }
 
@@ -97,6 +102,7 @@ fn tell_first(mut report: Bytes, mut set: Lines) -> Result<Lines, AllocError>
 /// What the others make of a list whose words are hyphenated, where this was told of the hyphens.
 fn lines_told(
     alloc: Global,
+    last: LastLine,
     table: &Eqtb,
     prev_depth: i32,
     passed: u32,
@@ -104,10 +110,10 @@ fn lines_told(
     report: Bytes,
 ) -> Result<Lines, ParError>
     requires rule { IsDimension (across table.now.table).overfull_rule }
-    ensures lines { IfOk result (λ set. spec.told_first report (spec.later_of table.now.table prev_depth passed list) ≡ Ok set) }
-    ensures error { IfErr result (λ e. e ≢ OutOfMemory → spec.told_first report (spec.later_of table.now.table prev_depth passed list) ≡ Err e) }
+    ensures lines { IfOk result (λ set. spec.told_first report (spec.later_of last table.now.table prev_depth passed list) ≡ Ok set) }
+    ensures error { IfErr result (λ e. e ≢ OutOfMemory → spec.told_first report (spec.later_of last table.now.table prev_depth passed list) ≡ Err e) }
 {
-    let set = lines_later(alloc, table, prev_depth, passed, list)?;
+    let set = lines_later(alloc, last, table, prev_depth, passed, list)?;
     Ok(tell_first(report, set)?)
 }
 
@@ -116,69 +122,68 @@ fn lines_of(
     alloc: Global,
     fonts: &Fonts,
     known: &mut Hyphenation,
+    last: LastLine,
     table: &Eqtb,
     prev_depth: i32,
     passed: u32,
     list: Nodes,
 ) -> Result<Lines, ParError>
     requires rule { IsDimension (across table.now.table).overfull_rule }
-    ensures lines { IfOk result (λ set. spec.lines_of (record { fonts = fonts.now; known = known.old }) table.now.table prev_depth passed list ≡ Ok set) }
-    ensures error { IfErr result (λ e. e ≢ OutOfMemory → spec.lines_of (record { fonts = fonts.now; known = known.old }) table.now.table prev_depth passed list ≡ Err e) }
-    ensures known { OnOk result (known.new ≡ spec.used_after (spec.first_of table.now.table prev_depth passed list) known.old) }
+    ensures lines { IfOk result (λ set. spec.lines_of (record { fonts = fonts.now; known = known.old }) last table.now.table prev_depth passed list ≡ Ok set) }
+    ensures error { IfErr result (λ e. e ≢ OutOfMemory → spec.lines_of (record { fonts = fonts.now; known = known.old }) last table.now.table prev_depth passed list ≡ Err e) }
+    ensures known { OnOk result (known.new ≡ spec.used_after (spec.first_of last table.now.table prev_depth passed list) known.old) }
 {
-    if let Some(set) = lines_first(alloc, table, prev_depth, passed, &list)? {
+    if let Some(set) = lines_first(alloc, last, table, prev_depth, passed, &list)? {
         return Ok(set);
     }
     known.used = true;
     let mut report = Bytes::new(alloc);
     let list = hyphenate(alloc, fonts, known, table, list, &mut report)?;
-    lines_told(alloc, table, prev_depth, passed, list, report)
+    lines_told(alloc, last, table, prev_depth, passed, list, report)
 }
 
 /// The same, where \overfullrule is a dimension.
-fn lines_if(
+pub(crate) fn lines_if(
     alloc: Global,
     fonts: &Fonts,
     known: &mut Hyphenation,
+    last: LastLine,
     table: &Eqtb,
     prev_depth: i32,
     passed: u32,
     list: Nodes,
 ) -> Result<Lines, ParError>
-    ensures lines { IfOk result (λ set. spec.lines_if (record { fonts = fonts.now; known = known.old }) table.now.table prev_depth passed list ≡ Ok set) }
-    ensures error { IfErr result (λ e. e ≢ OutOfMemory → spec.lines_if (record { fonts = fonts.now; known = known.old }) table.now.table prev_depth passed list ≡ Err e) }
-    ensures known { OnOk result (known.new ≡ spec.used_after (spec.first_of table.now.table prev_depth passed list) known.old) }
+    ensures lines { IfOk result (λ set. spec.lines_if (record { fonts = fonts.now; known = known.old }) last table.now.table prev_depth passed list ≡ Ok set) }
+    ensures error { IfErr result (λ e. e ≢ OutOfMemory → spec.lines_if (record { fonts = fonts.now; known = known.old }) last table.now.table prev_depth passed list ≡ Err e) }
+    ensures known { OnOk result (known.new ≡ spec.used_after (spec.first_of last table.now.table prev_depth passed list) known.old) }
 {
     let rule = i64::from(table.dimension(DimensionParameter::Overfullrule));
     if Range::Dimen.holds(rule) {
-        lines_of(alloc, fonts, known, table, prev_depth, passed, list)
+        lines_of(alloc, fonts, known, last, table, prev_depth, passed, list)
     } else {
         Err(ParError::SizeOutOfRange)
     }
 }
 
-/// Lines stand at the end of the list around, with so much \prevdepth behind them, in sp, this \prevgraf, and \badness; the next
-/// paragraph has the plain shape. After want of memory, its only error, lists and table may only be dropped, here and in all that
-/// follows.
-fn append_lines(
+/// Lines stand at the end of the list around, with so much \prevdepth behind them, in sp, this \prevgraf, and \badness. After want of
+/// memory, its only error, lists and table may only be dropped, here and in all that follows.
+pub(crate) fn append_lines(
     lists: &mut Lists,
-    table: &mut Eqtb,
     nodes: Nodes,
     depth: i32,
     graf: u32,
     badness: i64,
 ) -> Result<(), AllocError>
-    ensures lists { OnOk result (lists.new ≡ spec.with_lines lists.old nodes depth graf badness) }
-    ensures table { OnOk result (table.new ≡ plain_shape table.old) }
+    ensures { OnOk result (lists.new ≡ spec.with_lines lists.old nodes depth graf badness) }
 {
     append_items(lists.nest.top(), nodes)?;
     set_prev_depth(lists.nest.top(), depth);
     set_prev_graf(lists.nest.top(), graf);
     lists.badness = badness;
-    reset_shape(table)
+    Ok(())
 }
 
-/// What comes of lines that can be counted, and the answer is what the transcript gets of them.
+/// What comes of lines that can be counted: the next paragraph has the plain shape. The answer is what the transcript gets of them.
 fn use_lines(
     lists: &mut Lists,
     table: &mut Eqtb,
@@ -189,12 +194,14 @@ fn use_lines(
 {
     let Lines {
         nodes,
+        last: _,
         chosen: _,
         depth,
         badness,
         report,
     } = set;
-    append_lines(lists, table, nodes, depth, graf, badness)?;
+    append_lines(lists, nodes, depth, graf, badness)?;
+    reset_shape(table)?;
     Ok(report)
 }
 
@@ -228,7 +235,16 @@ fn set_list(
     ensures error { IfErr result (λ e. e ≢ OutOfMemory → spec.set_list (record { fonts = fonts.now; known = known.old }) (spec.depth_of lists.old.nest.innermost.state) passed list lists.old table.old ≡ Err e) }
 {
     let prev_depth = lists.nest.innermost().state.prev_depth().unwrap_or(0);
-    let set = lines_if(alloc, fonts, known, table, prev_depth, passed, list)?;
+    let set = lines_if(
+        alloc,
+        fonts,
+        known,
+        LastLine::OfParagraph,
+        table,
+        prev_depth,
+        passed,
+        list,
+    )?;
     count_lines(lists, table, passed, set)
 }
 
@@ -321,5 +337,18 @@ pub fn end_paragraph(
         Mode::Horizontal => leave(alloc, fonts, known, lists, table),
         Mode::Vertical | Mode::InternalVertical => Ok(only_reset(alloc, table)?),
         Mode::RestrictedHorizontal | Mode::Math | Mode::DisplayMath => Ok(Bytes::new(alloc)),
+    }
+}
+
+/// The error of a paragraph's lines by which the run ends, if that isn't want of memory.
+pub fn paragraph_error(error: ParError) -> Result<TexError, AllocError>
+    ensures told { IfOk result (λ told. told ≡ spec.par_error error) }
+    ensures memory { IfOk result (λ _. error ≢ OutOfMemory) }
+{
+    match error {
+        ParError::SizeOutOfRange => Ok(TexError::SizeOutOfRange),
+        ParError::TooDeep => Ok(TexError::TooDeep),
+        ParError::EndlessShrink => Ok(TexError::InfiniteShrink),
+        ParError::OutOfMemory => Err(AllocError),
     }
 }

@@ -2,6 +2,7 @@
 ghost use Rattle.std.specs.Prelude.{◌≡◌};
 ghost use Rattle.tx_paragraph.specs.Parameters as spec;
 
+use crate::last_line::LastLine;
 use tx_box::{across, leading_of};
 use tx_eqtb::Eqtb;
 use tx_linebreak::BreakParams;
@@ -28,9 +29,19 @@ fn breaking_of(table: &Eqtb) -> BreakParams
     }
 }
 
-/// All that setting a paragraph takes, behind so much \prevdepth, in sp.
-pub(crate) fn params_of(table: &Eqtb, prev_depth: i32) -> ParParams
-    ensures { result ≡ spec.params_of table.now.table prev_depth }
+/// The parameter of the penalty before the last line of a list.
+fn widow_of(last: LastLine) -> IntegerParameter
+    ensures { result ≡ spec.widow_of last }
+{
+    match last {
+        LastLine::OfParagraph => IntegerParameter::Widowpenalty,
+        LastLine::BeforeDisplay => IntegerParameter::Displaywidowpenalty,
+    }
+}
+
+/// All that setting a list takes of which this is the last line, behind so much \prevdepth, in sp.
+pub(crate) fn params_of(last: LastLine, table: &Eqtb, prev_depth: i32) -> ParParams
+    ensures { result ≡ spec.params_of last table.now.table prev_depth }
 {
     ParParams {
         breaking: breaking_of(table),
@@ -39,7 +50,7 @@ pub(crate) fn params_of(table: &Eqtb, prev_depth: i32) -> ParParams
         par_fill_skip: table.glue_parameter(GlueParameter::Parfillskip),
         inter_line_penalty: table.integer(IntegerParameter::Interlinepenalty),
         club_penalty: table.integer(IntegerParameter::Clubpenalty),
-        widow_penalty: table.integer(IntegerParameter::Widowpenalty),
+        widow_penalty: table.integer(widow_of(last)),
         broken_penalty: table.integer(IntegerParameter::Brokenpenalty),
         prev_depth,
     }

@@ -111,6 +111,52 @@ fn hung_lines(alloc: Global, table: &Eqtb, passed: u32, list: &Nodes) -> Result<
     hanging(alloc, line, hang, after, passed, list)
 }
 
+/// Whether line `line` of a paragraph, counted from 1, hangs by \hangafter, if any does.
+fn is_hung(after: i32, line: usize) -> bool
+    ensures { result ≡ spec.is_hung after line }
+{
+    if after >= 0 {
+        (after.unsigned_abs() as usize) < line
+    } else {
+        line <= after.unsigned_abs() as usize
+    }
+}
+
+/// That line, where \parshape tells none.
+fn hung_line(table: &Eqtb, line: usize) -> LineShape
+    ensures { result ≡ spec.hung_line table.now.table line }
+{
+    let size = table.dimension(DimensionParameter::Hsize);
+    let hang = table.dimension(DimensionParameter::Hangindent);
+    if hang == 0 {
+        return plain_line(size);
+    }
+    if is_hung(table.integer(IntegerParameter::Hangafter), line) {
+        hanging_line(size, hang)
+    } else {
+        plain_line(size)
+    }
+}
+
+/// That line of the ones that \parshape tells, the last of which stands for all further ones.
+fn told_line(lines: &[LineShape], line: usize, other: LineShape) -> LineShape
+    ensures { result ≡ spec.told_line lines.now line other }
+{
+    let place = line.saturating_sub(1).min(lines.len().saturating_sub(1));
+    match lines.get(place) {
+        Some(told) => *told,
+        None => other,
+    }
+}
+
+/// The shape of line `line` of a paragraph, counted from 1. Its only error is want of memory.
+pub(crate) fn line_at(alloc: Global, table: &Eqtb, line: usize) -> Result<LineShape, AllocError>
+    ensures { IfOk result (λ shape. shape ≡ spec.line_at table.now.table line) }
+{
+    let told = told_lines(alloc, table.par_shape())?;
+    Ok(told_line(told.as_slice(), line, hung_line(table, line)))
+}
+
 /// The shapes of the lines of a list behind so many lines that have passed, of which there is at least one. Its only error is want
 /// of memory.
 pub(crate) fn shape_of(

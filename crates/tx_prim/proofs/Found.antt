@@ -1,7 +1,7 @@
 -- Each primitive is the first of all that has its name.
 use Rattle.std.proofs.Common.{◌≡◌, ℕ, List, [], ◌∷◌, Some, IfSome, cond, true, false, refl}
 use Rattle.tx_prim.specs.declared.primitive.Primitive.{Primitive}
-use Rattle.tx_prim.specs.declared.primitive.Primitive.TheVariants.{Relax, EndCsName, Par, BeginGroup, EndGroup, Prefix, Let, Shorthand, Arithmetic, Numbered, Integer, Dimension, Glue, Tokens, Sized, Rule, Box, Shipout, End, IgnoreSpaces, Interaction, Definition, Text, After, FutureLet, BoxFrom, SetBox, Shift, Unbox, HorizontalGlue, VerticalGlue, Penalty, Remove, Last, Badness, PrevDepth, Leaders, NullFont, LoadFont, FontDimen, FontInteger, FamilyFont, Char, SpaceFactor as Factor, ItalicCorrection, ControlSpace, Indent, DiscretionaryHyphen, PrevGraf, ParShape, Adjust, Discretionary, MathChar, Atom, Center, Limits, Style, Choice, Fraction, MathGlue, Nonscript, Insert, DeadCycles, Page, Align, AlignWord}
+use Rattle.tx_prim.specs.declared.primitive.Primitive.TheVariants.{Relax, EndCsName, Par, BeginGroup, EndGroup, Prefix, Let, Shorthand, Arithmetic, Numbered, Integer, Dimension, Glue, Tokens, Sized, Rule, Box, Shipout, End, IgnoreSpaces, Interaction, Definition, Text, After, FutureLet, BoxFrom, SetBox, Shift, Unbox, HorizontalGlue, VerticalGlue, Penalty, Remove, Last, Badness, PrevDepth, Leaders, NullFont, LoadFont, FontDimen, FontInteger, FamilyFont, Char, SpaceFactor as Factor, ItalicCorrection, ControlSpace, Indent, DiscretionaryHyphen, PrevGraf, ParShape, Adjust, Discretionary, MathChar, Atom, Center, Limits, Style, Choice, Fraction, Delimited, Coded, Accent, MathGlue, Nonscript, Insert, DeadCycles, Page, Align, AlignWord, EquationNumber}
 use Rattle.tx_prim.specs.declared.family.Prefix.TheVariants.{Global, Long, Outer}
 use Rattle.tx_prim.specs.declared.family.Interaction.TheVariants.{Batch, Nonstop, Scroll, Errorstop}
 use Rattle.tx_prim.specs.declared.family.Operation.TheVariants.{Advance, Multiply, Divide}
@@ -23,12 +23,16 @@ use Rattle.tx_prim.specs.declared.family.AtomClass.TheVariants as atom
 use Rattle.tx_prim.specs.declared.family.LimitsKind.TheVariants as limits
 use Rattle.tx_prim.specs.declared.family.MathStyle.TheVariants as style
 use Rattle.tx_prim.specs.declared.family.FractionKind.TheVariants as fraction
+use Rattle.tx_prim.specs.declared.family.DelimiterUse.TheVariants as delimited
+use Rattle.tx_prim.specs.declared.family.DelimitedKind.TheVariants as between
+use Rattle.tx_prim.specs.declared.family.CodedKind.TheVariants as coded
 use Rattle.tx_prim.specs.declared.family.MathSize.TheVariants as family
 use Rattle.tx_prim.specs.declared.family.Indentation.TheVariants.{Indented, Flush}
 use Rattle.tx_prim.specs.declared.family.DefinitionKind.TheVariants as definition
 use Rattle.tx_prim.specs.declared.family.TextUse.TheVariants as text
 use Rattle.tx_prim.specs.declared.family.PageQuantity.TheVariants as page
 use Rattle.tx_prim.specs.declared.family.AlignWord.TheVariants as align
+use Rattle.tx_prim.specs.declared.family.NumberSide.TheVariants as number_side
 use Rattle.tx_prim.specs.declared.family.AfterKind.TheVariants as after
 use Rattle.tx_prim.specs.declared.integer.IntegerParameter.{IntegerParameter}
 use Rattle.tx_prim.specs.declared.integer.IntegerParameter.TheVariants.{Pretolerance, Tolerance, Hbadness, Vbadness, Linepenalty, Hyphenpenalty, Exhyphenpenalty, Binoppenalty, Relpenalty, Clubpenalty, Widowpenalty, Displaywidowpenalty, Brokenpenalty, Predisplaypenalty, Postdisplaypenalty, Interlinepenalty, Floatingpenalty, Outputpenalty, Doublehyphendemerits, Finalhyphendemerits, Adjdemerits, Looseness, Pausing, Holdinginserts, Tracingonline, Tracingmacros, Tracingstats, Tracingparagraphs, Tracingpages, Tracingoutput, Tracinglostchars, Tracingcommands, Tracingrestores, Language, Uchyph, Lefthyphenmin, Righthyphenmin, Globaldefs, Defaulthyphenchar, Defaultskewchar, Escapechar, Endlinechar, Newlinechar, Maxdeadcycles, Hangafter, Fam, Mag, Delimiterfactor, Time, Day, Month, Year, Showboxbreadth, Showboxdepth, Errorcontextlines}
@@ -297,6 +301,15 @@ found Choice = refl
 found (Fraction fraction.Over) = refl
 found (Fraction fraction.Atop) = refl
 found (Sized Above) = refl
+found (Delimited delimited.Left) = refl
+found (Delimited delimited.Right) = refl
+found (Delimited (delimited.Fraction between.Over)) = refl
+found (Delimited (delimited.Fraction between.Atop)) = refl
+found (Delimited (delimited.Fraction between.Above)) = refl
+found (Coded coded.Delimiter) = refl
+found (Coded coded.Radical) = refl
+found (Coded coded.Accent) = refl
+found Accent = refl
 found MathGlue = refl
 found (Sized MathKern) = refl
 found Nonscript = refl
@@ -321,6 +334,8 @@ found (AlignWord align.CrCr) = refl
 found (AlignWord align.Span) = refl
 found (AlignWord align.Omit) = refl
 found (AlignWord align.NoAlign) = refl
+found (EquationNumber number_side.Right) = refl
+found (EquationNumber number_side.Left) = refl
 found (Integer p) = integer-found p
 found (Dimension p) = dimension-found p
 found (Tokens p) = token-found p

@@ -5,15 +5,15 @@ use Rattle.tx_prim.specs.declared.modes.Mode.TheVariants.{Vertical, InternalVert
 use Rattle.tx_prim.specs.declared.modes.ModeTest.{ModeTest}
 use Rattle.tx_prim.specs.declared.modes.ModeTest.TheVariants as tests
 use Rattle.tx_prim.specs.declared.modes.Modes.{Modes}
-use Rattle.tx_prim.specs.declared.modes.Modes.TheVariants.{All, NotMath, NotVertical, InVertical, OnlyVertical, OutsideVertical, OnlyHorizontal, Pages, Math as Math_only, Nowhere}
+use Rattle.tx_prim.specs.declared.modes.Modes.TheVariants.{All, NotMath, NotVertical, InVertical, OnlyVertical, OutsideVertical, OnlyHorizontal, InHorizontal, Pages, Math as Math_only, Nowhere}
 use Rattle.tx_prim.specs.declared.modes.Standing.{Standing}
 use Rattle.tx_prim.specs.declared.modes.Standing.TheVariants.{Stands, BeginsParagraph, EndsParagraph, EndsRun, Refused}
 
--- a command of all modes stands in each; \par isn't for formulas; \vrule begins a paragraph in vertical modes; \hrule stands in
--- those and ends a paragraph; \moveleft stands in vertical modes alone, \raise in all others, \spacefactor in horizontal modes alone;
--- \end ends the run on the pages' list, once all is put out, and ends a paragraph, but may stand in no box and no formula; a
--- subscript stands in formulas alone, and a parameter character in no mode (TeX: The Program, sections 1045 to 1056, 1071, 1090 to
--- 1096)
+-- a command of all modes stands in each; \par isn't for formulas; \vrule begins a paragraph in vertical modes, as \accent does, which
+-- isn't for formulas; \hrule stands in those and ends a paragraph; \moveleft stands in vertical modes alone, \raise in all others,
+-- \spacefactor in horizontal modes alone; \end ends the run on the pages' list, once all is put out, and ends a paragraph, but may
+-- stand in no box and no formula; a subscript stands in formulas alone, and a parameter character in no mode (TeX: The Program,
+-- sections 1045 to 1056, 1071, 1090 to 1096)
 abbrev pub standing : Modes → Mode → Standing
 standing All mode = Stands
 standing NotMath Math = Refused
@@ -22,6 +22,11 @@ standing NotMath mode = Stands
 standing NotVertical Vertical = BeginsParagraph
 standing NotVertical InternalVertical = BeginsParagraph
 standing NotVertical mode = Stands
+standing InHorizontal Vertical = BeginsParagraph
+standing InHorizontal InternalVertical = BeginsParagraph
+standing InHorizontal Math = Refused
+standing InHorizontal DisplayMath = Refused
+standing InHorizontal mode = Stands
 standing InVertical Vertical = Stands
 standing InVertical InternalVertical = Stands
 standing InVertical Horizontal = EndsParagraph

@@ -1,7 +1,7 @@
 -- The table of the primitives.
 use Rattle.std.specs.Prelude.{ℕ, List, [], ◌∷◌, Option, None, Some, codes, cond, bytes_eq}
 use Rattle.tx_prim.specs.declared.primitive.Primitive.{Primitive}
-use Rattle.tx_prim.specs.declared.primitive.Primitive.TheVariants.{Relax, EndCsName, Par, BeginGroup, EndGroup, Prefix, Let, Shorthand, Arithmetic, Numbered, Integer, Dimension, Glue, Tokens, Sized, Rule, Box, Shipout, End, IgnoreSpaces, Interaction, Definition, Text, After, FutureLet, BoxFrom, SetBox, Shift, Unbox, HorizontalGlue, VerticalGlue, Penalty, Remove, Last, Badness, PrevDepth, Leaders, NullFont, LoadFont, FontDimen, FontInteger, FamilyFont, Char, SpaceFactor as Factor, ItalicCorrection, ControlSpace, Indent, DiscretionaryHyphen, PrevGraf, ParShape, Adjust, Discretionary, MathChar, Atom, Center, Limits, Style, Choice, Fraction, MathGlue, Nonscript, Insert, DeadCycles, Page, Align, AlignWord}
+use Rattle.tx_prim.specs.declared.primitive.Primitive.TheVariants.{Relax, EndCsName, Par, BeginGroup, EndGroup, Prefix, Let, Shorthand, Arithmetic, Numbered, Integer, Dimension, Glue, Tokens, Sized, Rule, Box, Shipout, End, IgnoreSpaces, Interaction, Definition, Text, After, FutureLet, BoxFrom, SetBox, Shift, Unbox, HorizontalGlue, VerticalGlue, Penalty, Remove, Last, Badness, PrevDepth, Leaders, NullFont, LoadFont, FontDimen, FontInteger, FamilyFont, Char, SpaceFactor as Factor, ItalicCorrection, ControlSpace, Indent, DiscretionaryHyphen, PrevGraf, ParShape, Adjust, Discretionary, MathChar, Atom, Center, Limits, Style, Choice, Fraction, Delimited, Coded, Accent, MathGlue, Nonscript, Insert, DeadCycles, Page, Align, AlignWord, EquationNumber}
 use Rattle.tx_prim.specs.declared.family.Prefix.TheVariants.{Global, Long, Outer}
 use Rattle.tx_prim.specs.declared.family.Interaction.TheVariants.{Batch, Nonstop, Scroll, Errorstop}
 use Rattle.tx_prim.specs.declared.family.Operation.TheVariants.{Advance, Multiply, Divide}
@@ -23,19 +23,23 @@ use Rattle.tx_prim.specs.declared.family.AtomClass.TheVariants as atom
 use Rattle.tx_prim.specs.declared.family.LimitsKind.TheVariants as limits
 use Rattle.tx_prim.specs.declared.family.MathStyle.TheVariants as style
 use Rattle.tx_prim.specs.declared.family.FractionKind.TheVariants as fraction
+use Rattle.tx_prim.specs.declared.family.DelimiterUse.TheVariants as delimited
+use Rattle.tx_prim.specs.declared.family.DelimitedKind.TheVariants as between
+use Rattle.tx_prim.specs.declared.family.CodedKind.TheVariants as coded
 use Rattle.tx_prim.specs.declared.family.MathSize.TheVariants as family
 use Rattle.tx_prim.specs.declared.family.Indentation.TheVariants.{Indented, Flush}
 use Rattle.tx_prim.specs.declared.family.DefinitionKind.TheVariants as definition
 use Rattle.tx_prim.specs.declared.family.TextUse.TheVariants as text
 use Rattle.tx_prim.specs.declared.family.PageQuantity.TheVariants as page
 use Rattle.tx_prim.specs.declared.family.AlignWord.TheVariants as align
+use Rattle.tx_prim.specs.declared.family.NumberSide.TheVariants as number_side
 use Rattle.tx_prim.specs.declared.family.AfterKind.TheVariants as after
 use Rattle.tx_prim.specs.declared.integer.IntegerParameter.TheVariants.{Pretolerance, Tolerance, Hbadness, Vbadness, Linepenalty, Hyphenpenalty, Exhyphenpenalty, Binoppenalty, Relpenalty, Clubpenalty, Widowpenalty, Displaywidowpenalty, Brokenpenalty, Predisplaypenalty, Postdisplaypenalty, Interlinepenalty, Floatingpenalty, Outputpenalty, Doublehyphendemerits, Finalhyphendemerits, Adjdemerits, Looseness, Pausing, Holdinginserts, Tracingonline, Tracingmacros, Tracingstats, Tracingparagraphs, Tracingpages, Tracingoutput, Tracinglostchars, Tracingcommands, Tracingrestores, Language, Uchyph, Lefthyphenmin, Righthyphenmin, Globaldefs, Defaulthyphenchar, Defaultskewchar, Escapechar, Endlinechar, Newlinechar, Maxdeadcycles, Hangafter, Fam, Mag, Delimiterfactor, Time, Day, Month, Year, Showboxbreadth, Showboxdepth, Errorcontextlines}
 use Rattle.tx_prim.specs.declared.dimension.DimensionParameter.TheVariants.{Hfuzz, Vfuzz, Overfullrule, Emergencystretch, Hsize, Vsize, Maxdepth, Splitmaxdepth, Boxmaxdepth, Lineskiplimit, Delimitershortfall, Nulldelimiterspace, Scriptspace, Mathsurround, Predisplaysize, Displaywidth, Displayindent, Parindent, Hangindent, Hoffset, Voffset}
 use Rattle.tx_prim.specs.declared.glue.GlueParameter.TheVariants.{Baselineskip, Lineskip, Parskip, Abovedisplayskip, Abovedisplayshortskip, Belowdisplayskip, Belowdisplayshortskip, Leftskip, Rightskip, Topskip, Splittopskip, Tabskip, Spaceskip, Xspaceskip, Parfillskip, Thinmuskip, Medmuskip, Thickmuskip}
 use Rattle.tx_prim.specs.declared.tokens.TokenParameter.TheVariants.{Output, Everypar, Everymath, Everydisplay, Everyhbox, Everyvbox, Everyjob, Everycr, Errhelp}
 use Rattle.tx_prim.specs.declared.modes.Modes.{Modes}
-use Rattle.tx_prim.specs.declared.modes.Modes.TheVariants.{All, NotMath, NotVertical, InVertical, OnlyVertical, OutsideVertical, OnlyHorizontal, Pages, Math as Formulas}
+use Rattle.tx_prim.specs.declared.modes.Modes.TheVariants.{All, NotMath, NotVertical, InVertical, OnlyVertical, OutsideVertical, OnlyHorizontal, InHorizontal, Pages, Math as Formulas}
 use Rattle.tx_prim.specs.Integers.{integer_name}
 use Rattle.tx_prim.specs.Dimensions.{dimension_name}
 use Rattle.tx_prim.specs.Glues.{glue_name}
@@ -185,6 +189,15 @@ line_of Choice = line (codes "mathchoice") Formulas
 line_of (Fraction fraction.Over) = line (codes "over") Formulas
 line_of (Fraction fraction.Atop) = line (codes "atop") Formulas
 line_of (Sized Above) = line (codes "above") Formulas
+line_of (Delimited delimited.Left) = line (codes "left") Formulas
+line_of (Delimited delimited.Right) = line (codes "right") Formulas
+line_of (Delimited (delimited.Fraction between.Over)) = line (codes "overwithdelims") Formulas
+line_of (Delimited (delimited.Fraction between.Atop)) = line (codes "atopwithdelims") Formulas
+line_of (Delimited (delimited.Fraction between.Above)) = line (codes "abovewithdelims") Formulas
+line_of (Coded coded.Delimiter) = line (codes "delimiter") Formulas
+line_of (Coded coded.Radical) = line (codes "radical") Formulas
+line_of (Coded coded.Accent) = line (codes "mathaccent") Formulas
+line_of Accent = line (codes "accent") InHorizontal
 line_of MathGlue = line (codes "mskip") Formulas
 line_of (Sized MathKern) = line (codes "mkern") Formulas
 line_of Nonscript = line (codes "nonscript") Formulas
@@ -209,6 +222,8 @@ line_of (AlignWord align.CrCr) = line (codes "crcr") All
 line_of (AlignWord align.Span) = line (codes "span") All
 line_of (AlignWord align.Omit) = line (codes "omit") All
 line_of (AlignWord align.NoAlign) = line (codes "noalign") All
+line_of (EquationNumber number_side.Right) = line (codes "eqno") Formulas
+line_of (EquationNumber number_side.Left) = line (codes "leqno") Formulas
 line_of (Integer parameter) = line (integer_name parameter) All
 line_of (Dimension parameter) = line (dimension_name parameter) All
 line_of (Tokens parameter) = line (token_name parameter) All
@@ -224,7 +239,7 @@ modes_of primitive = (line_of primitive).modes
 
 -- all primitives
 unfoldable pub all : List Primitive
-all = Relax ∷ EndCsName ∷ BeginGroup ∷ EndGroup ∷ Prefix Global ∷ Let ∷ Arithmetic Advance ∷ Arithmetic Multiply ∷ Arithmetic Divide ∷ Numbered Count ∷ Numbered Dimen ∷ Numbered Toks ∷ Shorthand CountRegister ∷ Shorthand DimenRegister ∷ Shorthand ToksRegister ∷ Shorthand Character ∷ Shorthand MathCharacter ∷ Numbered Category ∷ Numbered (Code LowerCase) ∷ Numbered (Code UpperCase) ∷ Numbered (Code SpaceFactor) ∷ Numbered (Code Math) ∷ Numbered (Code Delimiter) ∷ Box box.Horizontal ∷ Shipout ∷ Sized Kern ∷ Par ∷ End ∷ Rule rule.Vertical ∷ Prefix Long ∷ Prefix Outer ∷ IgnoreSpaces ∷ Interaction Batch ∷ Interaction Nonstop ∷ Interaction Scroll ∷ Interaction Errorstop ∷ Definition definition.Plain ∷ Definition definition.Expanded ∷ Definition definition.Global ∷ Definition definition.GlobalExpanded ∷ Text text.Message ∷ Text text.ErrorMessage ∷ Text text.UpperCase ∷ Text text.LowerCase ∷ After after.Group ∷ After after.Assignment ∷ FutureLet ∷ Box box.Vertical ∷ Box box.Top ∷ BoxFrom source.Register ∷ BoxFrom source.Copy ∷ BoxFrom source.Last ∷ SetBox ∷ Numbered (Size side.Width) ∷ Numbered (Size side.Height) ∷ Numbered (Size side.Depth) ∷ Shift shift.Raise ∷ Shift shift.Lower ∷ Shift shift.Left ∷ Shift shift.Right ∷ Rule rule.Horizontal ∷ Unbox unbox.Horizontal ∷ Unbox unbox.HorizontalCopy ∷ Unbox unbox.Vertical ∷ Unbox unbox.VerticalCopy ∷ HorizontalGlue glue.Skip ∷ HorizontalGlue glue.Fil ∷ HorizontalGlue glue.Fill ∷ HorizontalGlue glue.Both ∷ HorizontalGlue glue.Negative ∷ VerticalGlue glue.Skip ∷ VerticalGlue glue.Fil ∷ VerticalGlue glue.Fill ∷ VerticalGlue glue.Both ∷ VerticalGlue glue.Negative ∷ Penalty ∷ Remove item.Penalty ∷ Remove item.Kern ∷ Remove item.Skip ∷ Last item.Penalty ∷ Last item.Kern ∷ Last item.Skip ∷ Badness ∷ PrevDepth ∷ Text text.Special ∷ Leaders leaders.Aligned ∷ Leaders leaders.Centered ∷ Leaders leaders.Expanded ∷ Numbered Skip ∷ Numbered Muskip ∷ Shorthand SkipRegister ∷ Shorthand MuskipRegister ∷ NullFont ∷ LoadFont ∷ FontDimen ∷ FontInteger font.Hyphen ∷ FontInteger font.Skew ∷ FamilyFont family.Text ∷ FamilyFont family.Script ∷ FamilyFont family.ScriptScript ∷ Char ∷ Factor ∷ ItalicCorrection ∷ ControlSpace ∷ Indent Indented ∷ Indent Flush ∷ DiscretionaryHyphen ∷ PrevGraf ∷ ParShape ∷ Adjust ∷ Discretionary ∷ MathChar ∷ Atom atom.Ord ∷ Atom atom.Op ∷ Atom atom.Bin ∷ Atom atom.Rel ∷ Atom atom.Open ∷ Atom atom.Close ∷ Atom atom.Punct ∷ Atom atom.Inner ∷ Atom atom.Under ∷ Atom atom.Over ∷ Center ∷ Limits limits.Always ∷ Limits limits.Never ∷ Limits limits.Displayed ∷ Style style.Display ∷ Style style.Text ∷ Style style.Script ∷ Style style.ScriptScript ∷ Choice ∷ Fraction fraction.Over ∷ Fraction fraction.Atop ∷ Sized Above ∷ MathGlue ∷ Sized MathKern ∷ Nonscript ∷ Text text.Patterns ∷ Text text.Hyphenation ∷ BoxFrom source.Split ∷ Insert ∷ Text text.Mark ∷ DeadCycles ∷ Page page.Goal ∷ Page page.Total ∷ Page page.Stretch ∷ Page page.FilStretch ∷ Page page.FillStretch ∷ Page page.FilllStretch ∷ Page page.Shrink ∷ Page page.Depth ∷ Page page.InsertPenalties ∷ Align ∷ AlignWord align.Cr ∷ AlignWord align.CrCr ∷ AlignWord align.Span ∷ AlignWord align.Omit ∷ AlignWord align.NoAlign ∷ Integer Pretolerance ∷ Integer Tolerance ∷ Integer Hbadness ∷ Integer Vbadness ∷ Integer Linepenalty ∷ Integer Hyphenpenalty ∷ Integer Exhyphenpenalty ∷ Integer Binoppenalty ∷ Integer Relpenalty ∷ Integer Clubpenalty ∷ Integer Widowpenalty ∷ Integer Displaywidowpenalty ∷ Integer Brokenpenalty ∷ Integer Predisplaypenalty ∷ Integer Postdisplaypenalty ∷ Integer Interlinepenalty ∷ Integer Floatingpenalty ∷ Integer Outputpenalty ∷ Integer Doublehyphendemerits ∷ Integer Finalhyphendemerits ∷ Integer Adjdemerits ∷ Integer Looseness ∷ Integer Pausing ∷ Integer Holdinginserts ∷ Integer Tracingonline ∷ Integer Tracingmacros ∷ Integer Tracingstats ∷ Integer Tracingparagraphs ∷ Integer Tracingpages ∷ Integer Tracingoutput ∷ Integer Tracinglostchars ∷ Integer Tracingcommands ∷ Integer Tracingrestores ∷ Integer Language ∷ Integer Uchyph ∷ Integer Lefthyphenmin ∷ Integer Righthyphenmin ∷ Integer Globaldefs ∷ Integer Defaulthyphenchar ∷ Integer Defaultskewchar ∷ Integer Escapechar ∷ Integer Endlinechar ∷ Integer Newlinechar ∷ Integer Maxdeadcycles ∷ Integer Hangafter ∷ Integer Fam ∷ Integer Mag ∷ Integer Delimiterfactor ∷ Integer Time ∷ Integer Day ∷ Integer Month ∷ Integer Year ∷ Integer Showboxbreadth ∷ Integer Showboxdepth ∷ Integer Errorcontextlines ∷ Dimension Hfuzz ∷ Dimension Vfuzz ∷ Dimension Overfullrule ∷ Dimension Emergencystretch ∷ Dimension Hsize ∷ Dimension Vsize ∷ Dimension Maxdepth ∷ Dimension Splitmaxdepth ∷ Dimension Boxmaxdepth ∷ Dimension Lineskiplimit ∷ Dimension Delimitershortfall ∷ Dimension Nulldelimiterspace ∷ Dimension Scriptspace ∷ Dimension Mathsurround ∷ Dimension Predisplaysize ∷ Dimension Displaywidth ∷ Dimension Displayindent ∷ Dimension Parindent ∷ Dimension Hangindent ∷ Dimension Hoffset ∷ Dimension Voffset ∷ Tokens Output ∷ Tokens Everypar ∷ Tokens Everymath ∷ Tokens Everydisplay ∷ Tokens Everyhbox ∷ Tokens Everyvbox ∷ Tokens Everyjob ∷ Tokens Everycr ∷ Tokens Errhelp ∷ Glue Baselineskip ∷ Glue Lineskip ∷ Glue Parskip ∷ Glue Abovedisplayskip ∷ Glue Abovedisplayshortskip ∷ Glue Belowdisplayskip ∷ Glue Belowdisplayshortskip ∷ Glue Leftskip ∷ Glue Rightskip ∷ Glue Topskip ∷ Glue Splittopskip ∷ Glue Tabskip ∷ Glue Spaceskip ∷ Glue Xspaceskip ∷ Glue Parfillskip ∷ Glue Thinmuskip ∷ Glue Medmuskip ∷ Glue Thickmuskip ∷ []
+all = Relax ∷ EndCsName ∷ BeginGroup ∷ EndGroup ∷ Prefix Global ∷ Let ∷ Arithmetic Advance ∷ Arithmetic Multiply ∷ Arithmetic Divide ∷ Numbered Count ∷ Numbered Dimen ∷ Numbered Toks ∷ Shorthand CountRegister ∷ Shorthand DimenRegister ∷ Shorthand ToksRegister ∷ Shorthand Character ∷ Shorthand MathCharacter ∷ Numbered Category ∷ Numbered (Code LowerCase) ∷ Numbered (Code UpperCase) ∷ Numbered (Code SpaceFactor) ∷ Numbered (Code Math) ∷ Numbered (Code Delimiter) ∷ Box box.Horizontal ∷ Shipout ∷ Sized Kern ∷ Par ∷ End ∷ Rule rule.Vertical ∷ Prefix Long ∷ Prefix Outer ∷ IgnoreSpaces ∷ Interaction Batch ∷ Interaction Nonstop ∷ Interaction Scroll ∷ Interaction Errorstop ∷ Definition definition.Plain ∷ Definition definition.Expanded ∷ Definition definition.Global ∷ Definition definition.GlobalExpanded ∷ Text text.Message ∷ Text text.ErrorMessage ∷ Text text.UpperCase ∷ Text text.LowerCase ∷ After after.Group ∷ After after.Assignment ∷ FutureLet ∷ Box box.Vertical ∷ Box box.Top ∷ BoxFrom source.Register ∷ BoxFrom source.Copy ∷ BoxFrom source.Last ∷ SetBox ∷ Numbered (Size side.Width) ∷ Numbered (Size side.Height) ∷ Numbered (Size side.Depth) ∷ Shift shift.Raise ∷ Shift shift.Lower ∷ Shift shift.Left ∷ Shift shift.Right ∷ Rule rule.Horizontal ∷ Unbox unbox.Horizontal ∷ Unbox unbox.HorizontalCopy ∷ Unbox unbox.Vertical ∷ Unbox unbox.VerticalCopy ∷ HorizontalGlue glue.Skip ∷ HorizontalGlue glue.Fil ∷ HorizontalGlue glue.Fill ∷ HorizontalGlue glue.Both ∷ HorizontalGlue glue.Negative ∷ VerticalGlue glue.Skip ∷ VerticalGlue glue.Fil ∷ VerticalGlue glue.Fill ∷ VerticalGlue glue.Both ∷ VerticalGlue glue.Negative ∷ Penalty ∷ Remove item.Penalty ∷ Remove item.Kern ∷ Remove item.Skip ∷ Last item.Penalty ∷ Last item.Kern ∷ Last item.Skip ∷ Badness ∷ PrevDepth ∷ Text text.Special ∷ Leaders leaders.Aligned ∷ Leaders leaders.Centered ∷ Leaders leaders.Expanded ∷ Numbered Skip ∷ Numbered Muskip ∷ Shorthand SkipRegister ∷ Shorthand MuskipRegister ∷ NullFont ∷ LoadFont ∷ FontDimen ∷ FontInteger font.Hyphen ∷ FontInteger font.Skew ∷ FamilyFont family.Text ∷ FamilyFont family.Script ∷ FamilyFont family.ScriptScript ∷ Char ∷ Factor ∷ ItalicCorrection ∷ ControlSpace ∷ Indent Indented ∷ Indent Flush ∷ DiscretionaryHyphen ∷ PrevGraf ∷ ParShape ∷ Adjust ∷ Discretionary ∷ MathChar ∷ Atom atom.Ord ∷ Atom atom.Op ∷ Atom atom.Bin ∷ Atom atom.Rel ∷ Atom atom.Open ∷ Atom atom.Close ∷ Atom atom.Punct ∷ Atom atom.Inner ∷ Atom atom.Under ∷ Atom atom.Over ∷ Center ∷ Limits limits.Always ∷ Limits limits.Never ∷ Limits limits.Displayed ∷ Style style.Display ∷ Style style.Text ∷ Style style.Script ∷ Style style.ScriptScript ∷ Choice ∷ Fraction fraction.Over ∷ Fraction fraction.Atop ∷ Sized Above ∷ Delimited delimited.Left ∷ Delimited delimited.Right ∷ Delimited (delimited.Fraction between.Over) ∷ Delimited (delimited.Fraction between.Atop) ∷ Delimited (delimited.Fraction between.Above) ∷ Coded coded.Delimiter ∷ Coded coded.Radical ∷ Coded coded.Accent ∷ Accent ∷ MathGlue ∷ Sized MathKern ∷ Nonscript ∷ Text text.Patterns ∷ Text text.Hyphenation ∷ BoxFrom source.Split ∷ Insert ∷ Text text.Mark ∷ DeadCycles ∷ Page page.Goal ∷ Page page.Total ∷ Page page.Stretch ∷ Page page.FilStretch ∷ Page page.FillStretch ∷ Page page.FilllStretch ∷ Page page.Shrink ∷ Page page.Depth ∷ Page page.InsertPenalties ∷ Align ∷ AlignWord align.Cr ∷ AlignWord align.CrCr ∷ AlignWord align.Span ∷ AlignWord align.Omit ∷ AlignWord align.NoAlign ∷ EquationNumber number_side.Right ∷ EquationNumber number_side.Left ∷ Integer Pretolerance ∷ Integer Tolerance ∷ Integer Hbadness ∷ Integer Vbadness ∷ Integer Linepenalty ∷ Integer Hyphenpenalty ∷ Integer Exhyphenpenalty ∷ Integer Binoppenalty ∷ Integer Relpenalty ∷ Integer Clubpenalty ∷ Integer Widowpenalty ∷ Integer Displaywidowpenalty ∷ Integer Brokenpenalty ∷ Integer Predisplaypenalty ∷ Integer Postdisplaypenalty ∷ Integer Interlinepenalty ∷ Integer Floatingpenalty ∷ Integer Outputpenalty ∷ Integer Doublehyphendemerits ∷ Integer Finalhyphendemerits ∷ Integer Adjdemerits ∷ Integer Looseness ∷ Integer Pausing ∷ Integer Holdinginserts ∷ Integer Tracingonline ∷ Integer Tracingmacros ∷ Integer Tracingstats ∷ Integer Tracingparagraphs ∷ Integer Tracingpages ∷ Integer Tracingoutput ∷ Integer Tracinglostchars ∷ Integer Tracingcommands ∷ Integer Tracingrestores ∷ Integer Language ∷ Integer Uchyph ∷ Integer Lefthyphenmin ∷ Integer Righthyphenmin ∷ Integer Globaldefs ∷ Integer Defaulthyphenchar ∷ Integer Defaultskewchar ∷ Integer Escapechar ∷ Integer Endlinechar ∷ Integer Newlinechar ∷ Integer Maxdeadcycles ∷ Integer Hangafter ∷ Integer Fam ∷ Integer Mag ∷ Integer Delimiterfactor ∷ Integer Time ∷ Integer Day ∷ Integer Month ∷ Integer Year ∷ Integer Showboxbreadth ∷ Integer Showboxdepth ∷ Integer Errorcontextlines ∷ Dimension Hfuzz ∷ Dimension Vfuzz ∷ Dimension Overfullrule ∷ Dimension Emergencystretch ∷ Dimension Hsize ∷ Dimension Vsize ∷ Dimension Maxdepth ∷ Dimension Splitmaxdepth ∷ Dimension Boxmaxdepth ∷ Dimension Lineskiplimit ∷ Dimension Delimitershortfall ∷ Dimension Nulldelimiterspace ∷ Dimension Scriptspace ∷ Dimension Mathsurround ∷ Dimension Predisplaysize ∷ Dimension Displaywidth ∷ Dimension Displayindent ∷ Dimension Parindent ∷ Dimension Hangindent ∷ Dimension Hoffset ∷ Dimension Voffset ∷ Tokens Output ∷ Tokens Everypar ∷ Tokens Everymath ∷ Tokens Everydisplay ∷ Tokens Everyhbox ∷ Tokens Everyvbox ∷ Tokens Everyjob ∷ Tokens Everycr ∷ Tokens Errhelp ∷ Glue Baselineskip ∷ Glue Lineskip ∷ Glue Parskip ∷ Glue Abovedisplayskip ∷ Glue Abovedisplayshortskip ∷ Glue Belowdisplayskip ∷ Glue Belowdisplayshortskip ∷ Glue Leftskip ∷ Glue Rightskip ∷ Glue Topskip ∷ Glue Splittopskip ∷ Glue Tabskip ∷ Glue Spaceskip ∷ Glue Xspaceskip ∷ Glue Parfillskip ∷ Glue Thinmuskip ∷ Glue Medmuskip ∷ Glue Thickmuskip ∷ []
 
 -- the first primitive of a list that has a name
 abbrev pub named : List Primitive → List ℕ → Option Primitive

@@ -343,6 +343,49 @@ pub enum FractionKind {
     Atop,
 }
 
+/// What makes a fraction of the list around it and takes two delimiters, which stand around the fraction (The TeXbook,
+/// chapter 17).
+#[derive(Clone, Copy, PartialEq, Eq)]
+pub enum DelimitedKind {
+    /// \overwithdelims: with a line.
+    Over,
+    /// \atopwithdelims: without.
+    Atop,
+    /// \abovewithdelims: with a line of a size that follows.
+    Above,
+}
+
+/// What takes a delimiter (The TeXbook, chapter 17).
+#[derive(Clone, Copy, PartialEq, Eq)]
+pub enum DelimiterUse {
+    /// \left: a formula between delimiters begins.
+    Left,
+    /// \right: it ends.
+    Right,
+    /// \overwithdelims and its kin, which take two.
+    Fraction(DelimitedKind),
+}
+
+/// What a number names by its classes, families and characters (The TeXbook, chapter 17).
+#[derive(Clone, Copy, PartialEq, Eq)]
+pub enum CodedKind {
+    /// \delimiter: a delimiter, and elsewhere a character.
+    Delimiter,
+    /// \radical: the delimiter at the left of an atom with a line above it.
+    Radical,
+    /// \mathaccent: a character that stands above an atom.
+    Accent,
+}
+
+/// On which side of its line the number of an equation stands (The TeXbook, chapter 19).
+#[derive(Clone, Copy, PartialEq, Eq)]
+pub enum NumberSide {
+    /// \eqno.
+    Right,
+    /// \leqno.
+    Left,
+}
+
 /// The size of the fonts of families (The TeXbook, chapter 17).
 #[derive(Clone, Copy, PartialEq, Eq)]
 pub enum MathSize {

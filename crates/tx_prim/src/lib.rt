@@ -21,9 +21,10 @@ pub use dimension::DimensionParameter;
 pub use expandable::{BoxTest, CondWord, Conversion, Expandable, MarkKind, Test};
 pub use family::{
     AfterKind, AlignWord, AtomClass, AtomPart, BoxKind, BoxSide, BoxSource, BreakText,
-    CharacterCode, DefinitionKind, EntryEnd, FontNumber, FractionKind, GlueForm, Indentation,
-    Interaction, ItemKind, LeadersKind, LimitsKind, MathSize, MathStyle, Numbered, Operation,
-    PageQuantity, Prefix, RuleKind, ShiftKind, Shorthand, SizeKind, TextUse, UnboxKind,
+    CharacterCode, CodedKind, DefinitionKind, DelimitedKind, DelimiterUse, EntryEnd, FontNumber,
+    FractionKind, GlueForm, Indentation, Interaction, ItemKind, LeadersKind, LimitsKind, MathSize,
+    MathStyle, NumberSide, Numbered, Operation, PageQuantity, Prefix, RuleKind, ShiftKind,
+    Shorthand, SizeKind, TextUse, UnboxKind,
 };
 pub use glue::GlueParameter;
 pub use integer::{IntegerParameter, Moment};

@@ -41,6 +41,8 @@ pub enum Modes {
     NotMath,
     /// In horizontal modes and formulas; in vertical modes it begins a paragraph, and stands in that.
     NotVertical,
+    /// In horizontal modes; in vertical modes it begins a paragraph, and stands in that.
+    InHorizontal,
     /// In vertical modes; in a paragraph it ends that first.
     InVertical,
     /// In vertical modes alone.
@@ -99,6 +101,11 @@ impl Modes {
             (Modes::NotVertical, Mode::Vertical | Mode::InternalVertical) => {
                 Standing::BeginsParagraph
             }
+            (Modes::InHorizontal, Mode::Vertical | Mode::InternalVertical) => {
+                Standing::BeginsParagraph
+            }
+            (Modes::InHorizontal, Mode::Math | Mode::DisplayMath) => Standing::Refused,
+            (Modes::InHorizontal, _) => Standing::Stands,
             (Modes::InVertical, Mode::Vertical | Mode::InternalVertical) => Standing::Stands,
             (Modes::InVertical, Mode::Horizontal) => Standing::EndsParagraph,
             (Modes::InVertical, _) => Standing::Refused,

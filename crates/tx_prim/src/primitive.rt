@@ -5,10 +5,10 @@ ghost use Rattle.tx_prim.specs.Table.{all, modes_of, name_of, named};
 
 use crate::dimension::DimensionParameter;
 use crate::family::{
-    AfterKind, AlignWord, AtomClass, BoxKind, BoxSide, BoxSource, CharacterCode, DefinitionKind,
-    FontNumber, FractionKind, GlueForm, Indentation, Interaction, ItemKind, LeadersKind,
-    LimitsKind, MathSize, MathStyle, Numbered, Operation, PageQuantity, Prefix, RuleKind,
-    ShiftKind, Shorthand, SizeKind, TextUse, UnboxKind,
+    AfterKind, AlignWord, AtomClass, BoxKind, BoxSide, BoxSource, CharacterCode, CodedKind,
+    DefinitionKind, DelimitedKind, DelimiterUse, FontNumber, FractionKind, GlueForm, Indentation,
+    Interaction, ItemKind, LeadersKind, LimitsKind, MathSize, MathStyle, NumberSide, Numbered,
+    Operation, PageQuantity, Prefix, RuleKind, ShiftKind, Shorthand, SizeKind, TextUse, UnboxKind,
 };
 use crate::glue::GlueParameter;
 use crate::integer::IntegerParameter;
@@ -133,6 +133,12 @@ pub enum Primitive {
     Choice,
     /// \over and \atop.
     Fraction(FractionKind),
+    /// What takes delimiters, as \left.
+    Delimited(DelimiterUse),
+    /// What takes the number of characters, as \delimiter.
+    Coded(CodedKind),
+    /// \accent: a character that stands above another.
+    Accent,
     /// \mskip: glue in mu.
     MathGlue,
     /// \nonscript.
@@ -147,10 +153,12 @@ pub enum Primitive {
     Align,
     /// A word of alignments, as \cr.
     AlignWord(AlignWord),
+    /// \eqno and \leqno: the number of an equation.
+    EquationNumber(NumberSide),
 }
 
 /// All primitives, in the order of their table.
-const ALL: [Primitive; 261] = [
+const ALL: [Primitive; 272] = [
     Primitive::Relax,
     Primitive::EndCsName,
     Primitive::BeginGroup,
@@ -285,6 +293,15 @@ const ALL: [Primitive; 261] = [
     Primitive::Fraction(FractionKind::Over),
     Primitive::Fraction(FractionKind::Atop),
     Primitive::Sized(SizeKind::Above),
+    Primitive::Delimited(DelimiterUse::Left),
+    Primitive::Delimited(DelimiterUse::Right),
+    Primitive::Delimited(DelimiterUse::Fraction(DelimitedKind::Over)),
+    Primitive::Delimited(DelimiterUse::Fraction(DelimitedKind::Atop)),
+    Primitive::Delimited(DelimiterUse::Fraction(DelimitedKind::Above)),
+    Primitive::Coded(CodedKind::Delimiter),
+    Primitive::Coded(CodedKind::Radical),
+    Primitive::Coded(CodedKind::Accent),
+    Primitive::Accent,
     Primitive::MathGlue,
     Primitive::Sized(SizeKind::MathKern),
     Primitive::Nonscript,
@@ -309,6 +326,8 @@ const ALL: [Primitive; 261] = [
     Primitive::AlignWord(AlignWord::Span),
     Primitive::AlignWord(AlignWord::Omit),
     Primitive::AlignWord(AlignWord::NoAlign),
+    Primitive::EquationNumber(NumberSide::Right),
+    Primitive::EquationNumber(NumberSide::Left),
     Primitive::Integer(IntegerParameter::Pretolerance),
     Primitive::Integer(IntegerParameter::Tolerance),
     Primitive::Integer(IntegerParameter::Hbadness),
@@ -563,6 +582,17 @@ impl Primitive {
             Primitive::Fraction(FractionKind::Over) => b"over",
             Primitive::Fraction(FractionKind::Atop) => b"atop",
             Primitive::Sized(SizeKind::Above) => b"above",
+            Primitive::Delimited(DelimiterUse::Left) => b"left",
+            Primitive::Delimited(DelimiterUse::Right) => b"right",
+            Primitive::Delimited(DelimiterUse::Fraction(DelimitedKind::Over)) => b"overwithdelims",
+            Primitive::Delimited(DelimiterUse::Fraction(DelimitedKind::Atop)) => b"atopwithdelims",
+            Primitive::Delimited(DelimiterUse::Fraction(DelimitedKind::Above)) => {
+                b"abovewithdelims"
+            }
+            Primitive::Coded(CodedKind::Delimiter) => b"delimiter",
+            Primitive::Coded(CodedKind::Radical) => b"radical",
+            Primitive::Coded(CodedKind::Accent) => b"mathaccent",
+            Primitive::Accent => b"accent",
             Primitive::MathGlue => b"mskip",
             Primitive::Sized(SizeKind::MathKern) => b"mkern",
             Primitive::Nonscript => b"nonscript",
@@ -587,6 +617,8 @@ impl Primitive {
             Primitive::AlignWord(AlignWord::Span) => b"span",
             Primitive::AlignWord(AlignWord::Omit) => b"omit",
             Primitive::AlignWord(AlignWord::NoAlign) => b"noalign",
+            Primitive::EquationNumber(NumberSide::Right) => b"eqno",
+            Primitive::EquationNumber(NumberSide::Left) => b"leqno",
             Primitive::Integer(parameter) => parameter.name(),
             Primitive::Dimension(parameter) => parameter.name(),
             Primitive::Tokens(parameter) => parameter.name(),
@@ -638,6 +670,9 @@ impl Primitive {
             Primitive::MathChar | Primitive::Atom(_) | Primitive::Center => Modes::Math,
             Primitive::Limits(_) | Primitive::Style(_) | Primitive::Choice => Modes::Math,
             Primitive::Fraction(_) | Primitive::MathGlue | Primitive::Nonscript => Modes::Math,
+            Primitive::Delimited(_) | Primitive::Coded(_) => Modes::Math,
+            Primitive::Accent => Modes::InHorizontal,
+            Primitive::EquationNumber(_) => Modes::Math,
             Primitive::SpaceFactor => Modes::OnlyHorizontal,
             Primitive::Par => Modes::NotMath,
             Primitive::End => Modes::Pages,

@@ -12,21 +12,21 @@ use Rattle.tx_command.specs.declared.scans.RowStart.{RowStart}
 use Rattle.tx_command.specs.declared.scans.RowStart.TheVariants as start
 use Rattle.tx_prim.specs.declared.family.DefinitionKind.{DefinitionKind}
 use Rattle.tx_prim.specs.declared.family.GlueForm.{GlueForm}
+use Rattle.tx_node.specs.Items.{PackedBox}
 use Rattle.tx_prim.specs.declared.family.LeadersKind.{LeadersKind}
 use Rattle.tx_prim.specs.declared.family.RuleKind.{RuleKind}
 use Rattle.tx_prim.specs.declared.primitive.Primitive.{Primitive}
 use Rattle.tx_prim.specs.declared.primitive.Primitive.TheVariants as primitive
-use Rattle.tx_prim.specs.declared.primitive.Primitive.TheVariants.{Rule as Rule_primitive}
 use Rattle.tx_seen.specs.declared.meaning.Meaning.{Meaning}
 use Rattle.tx_seen.specs.declared.meaning.Meaning.TheVariants as meant
-use Rattle.tx_seen.specs.declared.meaning.Meaning.TheVariants.{Command as Command_meaning}
 use Rattle.tx_prim.specs.declared.family.Shorthand.{Shorthand}
+use Rattle.tx_prim.specs.declared.family.SizeKind.TheVariants.{Above}
 use Rattle.tx_command.specs.declared.types.SizeUse.{SizeUse}
 use Rattle.tx_command.specs.declared.types.SizeUse.TheVariants as size
 use Rattle.tx_prim.specs.declared.modes.Mode.{Mode}
 use Rattle.tx_prim.specs.declared.modes.Standing.TheVariants.{Stands}
-use Rattle.tx_seen.specs.declared.error.TexError.TheVariants.{NoAssignment}
-use Rattle.tx_seen.specs.Seen.{is_space, is_relax, is_undefined}
+use Rattle.tx_seen.specs.declared.error.TexError.TheVariants.{NoAssignment, NotAllowed, Undefined}
+use Rattle.tx_seen.specs.Seen.{is_space, is_relax, is_undefined, continues_word}
 use Rattle.tx_seen.specs.declared.fed.Fed.{Fed}
 use Rattle.tx_seen.specs.declared.fed.Fed.TheVariants as fed
 use Rattle.tx_seen.specs.declared.fed.Value.{Value}
@@ -69,11 +69,12 @@ use Rattle.tx_command.specs.declared.scans.Stage.TheVariants as stage
 use Rattle.tx_command.specs.declared.scans.Whole.{Whole}
 use Rattle.tx_command.specs.declared.scans.Whole.TheVariants as whole
 use Rattle.tx_command.specs.declared.types.Command.{Command}
-use Rattle.tx_command.specs.declared.types.Command.TheVariants.{Nothing, Assign, Keep, Sized}
+use Rattle.tx_command.specs.declared.types.Command.TheVariants.{Nothing, Assign, EndAccent, Keep, Sized}
+use Rattle.tx_command.specs.declared.types.Delimiting.{Delimiting}
 use Rattle.tx_command.specs.declared.types.Head.{Head}
-use Rattle.tx_command.specs.declared.types.Head.TheVariants.{Fresh, Prefixed, Defining, Future, Leading, Shift, Part, Loading, Shaping as Shaping_head, Opening, Aligning, Preamble, Row, Entry}
+use Rattle.tx_command.specs.declared.types.Head.TheVariants.{Fresh, Prefixed, Defining, Future, Leading, LeadingBox, Shift, Part, Delimiting as Delimiting_head, Thickness, Accenting, Loading, Shaping as Shaping_head, Opening, Aligning, Preamble, Row, Entry, SecondShift, Displayed}
 use Rattle.tx_command.specs.declared.types.Prefixes.{Prefixes}
-use Rattle.tx_command.specs.Commands.{command, command_meant, family_command, font_defining, future_defining, load_of, loading, future_of, future_second, keeping, macro_defining, fresh_command, standing_command, may_be_prefixed, prefixed_command, assigning, defining, leaders_of, leaders_rule, leading_command, leading_glue, led_by, repeated, ruling, sizing, skipping, command_of, shaping, is_part, part_command, shift_command, units_of, entry_start, preamble_by, preamble_command, preamble_part, row_start, started}
+use Rattle.tx_command.specs.Commands.{accent_assigning, accent_bare, accent_command, accent_prefixed, command, command_meant, delimiter_command, family_command, font_defining, future_defining, load_of, loading, future_of, future_second, keeping, macro_defining, fresh_command, standing_command, may_be_prefixed, prefixed_command, assigning, defining, leaders_of, led_box, led_rule, leaders_rule, leading_command, leading_glue, led_by, repeated, ruling, sizing, skipping, command_of, shaping, is_assignment, is_delimiter, is_part, is_prefixed, is_setbox, part_command, shift_command, units_of, entry_start, preamble_by, preamble_command, preamble_part, row_start, started, second_shift_command, displayed_command}
 use Rattle.tx_command.specs.Standing.{standing_in}
 use Rattle.tx_scan.proofs.Answering.{ending-none}
 use Rattle.tx_scan.specs.Mapped.{mapped}
@@ -320,9 +321,17 @@ pub leaders-skip : (kind : LeadersKind) (t : Seen) (new : Scans) → is_undefine
 leaders-skip kind t new u s is = λ mode head.
     alike mode head 0 (λ more. leaders_of kind (Took t ∷ more)) (leaders_of kind) [] new (fed.More Expanded) (λ more. rw (u, s) refl) (leaders-begun kind new is mode head)
 
-pub leaders-ruled : (kind : LeadersKind) (direction : RuleKind) (t : Seen) (new : Scans) → is_undefined t ≡ false → (is_space t || is_relax t) ≡ false → t.meaning ≡ Command_meaning (Rule_primitive direction) → new.stage ≡ stage.LeadersRule kind → new.rule.rule ≡ plain_rule direction → new.rule.part ≡ rule.Start → Begins (λ more. leaders_of kind (Took t ∷ more)) new (fed.More Expanded)
+pub leaders-ruled : (kind : LeadersKind) (direction : RuleKind) (t : Seen) (new : Scans) → is_undefined t ≡ false → (is_space t || is_relax t) ≡ false → led_rule t.meaning ≡ Some direction → new.stage ≡ stage.LeadersRule kind → new.rule.rule ≡ plain_rule direction → new.rule.part ≡ rule.Start → Begins (λ more. leaders_of kind (Took t ∷ more)) new (fed.More Expanded)
 leaders-ruled kind direction t new u s means is same part = λ mode head.
-    alike mode head 0 (λ more. leaders_of kind (Took t ∷ more)) (leaders_rule kind direction) [] new (fed.More Expanded) (λ more. rw (u, s) (ap (λ m. repeated kind m more) means)) (led-begun kind direction new is same part mode head)
+    alike mode head 0 (λ more. leaders_of kind (Took t ∷ more)) (leaders_rule kind direction) [] new (fed.More Expanded) (λ more. rw (u, s) (ap (λ found. repeated kind found t more) means)) (led-begun kind direction new is same part mode head)
+
+-- the box that they repeat
+pub leaders-boxed : (kind : LeadersKind) (t : Seen) (new : Scans) (answer : Fed Command) → is_undefined t ≡ false → (is_space t || is_relax t) ≡ false → led_rule t.meaning ≡ None → Begins (λ more. led_box kind (Took t ∷ more)) new answer → Begins (λ more. leaders_of kind (Took t ∷ more)) new answer
+leaders-boxed kind t new answer u s found k = λ mode head.
+    alike mode head 0 (λ more. leaders_of kind (Took t ∷ more)) (λ more. led_box kind (Took t ∷ more)) [] new answer
+    (λ more.
+    ap (λ b. cond b (Wrong Undefined) (cond (is_space t || is_relax t) (leaders_of kind more) (repeated kind (led_rule t.meaning) t more))) u
+    ∙ (ap (λ b. cond b (leaders_of kind more) (repeated kind (led_rule t.meaning) t more)) s ∙ ap (λ f. repeated kind f t more) found)) (k mode head)
 
 -- glue behind leaders
 pub leading-glued : (mode : Mode) (form : GlueForm) (t : Seen) (new : Scans) (answer : Fed Command) → is_undefined t ≡ false → (is_space t || is_relax t) ≡ false → leading_glue mode t.meaning ≡ Some form → Begins (shaping (shape_glue.Glue form)) new answer → Begins (λ more. leading_command mode (Took t ∷ more)) new answer
@@ -335,6 +344,48 @@ pub part-stands : (t : Seen) (new : Scans) (answer : Fed Command) → is_undefin
 part-stands t new answer u s p k = λ mode head.
     alike mode head 0 (λ more. part_command (Took t ∷ more)) (λ more. command_meant t.meaning more) [] new answer
     (λ more. rw (u, s, p) refl) (k mode head)
+
+-- a delimiter
+pub delimiter-stands : (t : Seen) (new : Scans) (answer : Fed Command) → is_undefined t ≡ false → (is_space t || is_relax t) ≡ false → is_delimiter t.meaning ≡ true → Begins (command_meant t.meaning) new answer → Begins (λ more. delimiter_command (Took t ∷ more)) new answer
+delimiter-stands t new answer u s d k = λ mode head.
+    alike mode head 0 (λ more. delimiter_command (Took t ∷ more)) (λ more. command_meant t.meaning more) [] new answer
+    (λ more. rw (u, s, d) refl) (k mode head)
+
+-- what stands behind an accent
+pub accent-stands : (mode : Mode) (t : Seen) (new : Scans) (answer : Fed Command) → is_undefined t ≡ false → (is_space t || is_relax t) ≡ false → continues_word t ≡ true → Begins (command_meant t.meaning) new answer → (around : Mode) (head : Head) → IsBegunBy around head 1 (λ more. accent_bare mode (Took t ∷ more)) (Took t ∷ []) new answer
+accent-stands mode t new answer u s c k = λ around head.
+    one-token around head (λ more. accent_bare mode (Took t ∷ more)) t new answer
+    (alike around head 0 (λ more. accent_bare mode (Took t ∷ more)) (λ more. command_meant t.meaning more) [] new answer
+    (λ more. rw (u, s) (ap (λ b. cond b (command_meant t.meaning more) (accent_assigning mode (Took t ∷ more))) c)) (k around head))
+
+pub accent-assigns : (mode : Mode) (t : Seen) (new : Scans) (answer : Fed Command) → is_undefined t ≡ false → (is_space t || is_relax t) ≡ false → continues_word t ≡ false → ((around : Mode) (head : Head) → IsBegunBy around head 1 (λ more. accent_assigning mode (Took t ∷ more)) (Took t ∷ []) new answer) → (around : Mode) (head : Head) → IsBegunBy around head 1 (λ more. accent_bare mode (Took t ∷ more)) (Took t ∷ []) new answer
+accent-assigns mode t new answer u s c k = λ around head.
+    alike around head 1 (λ more. accent_bare mode (Took t ∷ more)) (λ more. accent_assigning mode (Took t ∷ more)) (Took t ∷ []) new answer
+    (λ more. rw (u, s) (ap (λ b. cond b (command_meant t.meaning more) (accent_assigning mode (Took t ∷ more))) c)) (k around head)
+
+pub accent-set : (mode : Mode) (t : Seen) (new : Scans) (answer : Fed Command) → is_setbox t.meaning ≡ false → is_assignment t.meaning ≡ true → ((around : Mode) (head : Head) → IsBegunBy around head 1 (λ more. fresh_command mode (Took t ∷ more)) (Took t ∷ []) new answer) → (around : Mode) (head : Head) → IsBegunBy around head 1 (λ more. accent_assigning mode (Took t ∷ more)) (Took t ∷ []) new answer
+accent-set mode t new answer e h k = λ around head.
+    alike around head 1 (λ more. accent_assigning mode (Took t ∷ more)) (λ more. fresh_command mode (Took t ∷ more)) (Took t ∷ []) new answer
+    (λ more.
+    ap (λ b. cond b (Wrong NotAllowed) (cond (is_assignment t.meaning) (fresh_command mode (Took t ∷ more)) (Done EndAccent (Took t ∷ more)))) e
+    ∙ ap (λ b. cond b (fresh_command mode (Took t ∷ more)) (Done EndAccent (Took t ∷ more))) h) (k around head)
+
+-- and behind prefixes there
+pub accent-behind : (prefixes : Prefixes) (t : Seen) (new : Scans) (answer : Fed Command) → is_setbox t.meaning ≡ false → Begins (λ more. prefixed_command prefixes (Took t ∷ more)) new answer → Begins (λ more. accent_prefixed prefixes (Took t ∷ more)) new answer
+accent-behind prefixes t new answer e k = λ mode head.
+    alike mode head 0 (λ more. accent_prefixed prefixes (Took t ∷ more)) (λ more. prefixed_command prefixes (Took t ∷ more)) [] new answer
+    (λ more. ap (λ b. cond b (Wrong NotAllowed) (prefixed_command prefixes (Took t ∷ more))) e) (k mode head)
+
+pub accent-with : (mode : Mode) (prefixes : Prefixes) (t : Seen) (new : Scans) (answer : Fed Command) → is_prefixed prefixes ≡ true → Begins (λ more. accent_prefixed prefixes (Took t ∷ more)) new answer → (around : Mode) (head : Head) → IsBegunBy around head 1 (λ more. accent_command mode prefixes (Took t ∷ more)) (Took t ∷ []) new answer
+accent-with mode prefixes t new answer e k = λ around head.
+    one-token around head (λ more. accent_command mode prefixes (Took t ∷ more)) t new answer
+    (alike around head 0 (λ more. accent_command mode prefixes (Took t ∷ more)) (λ more. accent_prefixed prefixes (Took t ∷ more)) [] new answer
+    (λ more. ap (λ b. cond b (accent_prefixed prefixes (Took t ∷ more)) (accent_bare mode (Took t ∷ more))) e) (k around head))
+
+pub accent-without : (mode : Mode) (prefixes : Prefixes) (t : Seen) (new : Scans) (answer : Fed Command) → is_prefixed prefixes ≡ false → ((around : Mode) (head : Head) → IsBegunBy around head 1 (λ more. accent_bare mode (Took t ∷ more)) (Took t ∷ []) new answer) → (around : Mode) (head : Head) → IsBegunBy around head 1 (λ more. accent_command mode prefixes (Took t ∷ more)) (Took t ∷ []) new answer
+accent-without mode prefixes t new answer e k = λ around head.
+    alike around head 1 (λ more. accent_command mode prefixes (Took t ∷ more)) (λ more. accent_bare mode (Took t ∷ more)) (Took t ∷ []) new answer
+    (λ more. ap (λ b. cond b (accent_prefixed prefixes (Took t ∷ more)) (accent_bare mode (Took t ∷ more))) e) (k around head)
 
 -- the first token behind a name that is defined
 pub first-assigned : (mode : Mode) (head : Head) (begun : Assigning) (old : AssignScan) (new : Scans) (made : Command) (t : Seen) (answer : Fed (Unit {0})) → new.stage ≡ stage.Assign → IsBegun begun old → assign_needed old ≤ 1 → IsAssigned old t new.assignment answer → NeedsNoMore (assign_needed old) (assign_needed new.assignment) answer → WaitsIfAssigning new.assignment answer → IsBegunBy mode head 1 (λ more. assigning begun (Took t ∷ more)) (Took t ∷ []) new (told new made (mapped (λ _. whole.Assignment) answer))
@@ -412,11 +463,27 @@ first-prefixed mode head prefixes t new answer e k = rw e (one-token mode (Prefi
 pub first-leading : (mode : Mode) (head : Head) (kind : LeadersKind) (sides : Rule) (t : Seen) (new : Scans) (answer : Fed Command) → head ≡ Leading kind sides → Begins (λ more. leading_command mode (Took t ∷ more)) new answer → IsBegunBy mode head 1 (λ more. command mode head (Took t ∷ more)) (Took t ∷ []) new answer
 first-leading mode head kind sides t new answer e k = rw e (one-token mode (Leading kind sides) (λ more. leading_command mode (Took t ∷ more)) t new answer (k mode (Leading kind sides)))
 
+pub first-leading-box : (mode : Mode) (head : Head) (kind : LeadersKind) (b : PackedBox) (t : Seen) (new : Scans) (answer : Fed Command) → head ≡ LeadingBox kind b → Begins (λ more. leading_command mode (Took t ∷ more)) new answer → IsBegunBy mode head 1 (λ more. command mode head (Took t ∷ more)) (Took t ∷ []) new answer
+first-leading-box mode head kind b t new answer e k = rw e (one-token mode (LeadingBox kind b) (λ more. leading_command mode (Took t ∷ more)) t new answer (k mode (LeadingBox kind b)))
+
 pub first-shift : (mode : Mode) (head : Head) (t : Seen) (new : Scans) (answer : Fed Command) → head ≡ Shift → ((around : Mode) (h : Head) → IsBegunBy around h 1 (λ more. shift_command mode (Took t ∷ more)) (Took t ∷ []) new answer) → IsBegunBy mode head 1 (λ more. command mode head (Took t ∷ more)) (Took t ∷ []) new answer
 first-shift mode head t new answer e k = rw e (k mode Shift)
 
+-- the tokens behind the end of a displayed formula
+pub first-second-shift : (mode : Mode) (head : Head) (t : Seen) (new : Scans) (answer : Fed Command) → head ≡ SecondShift → ((around : Mode) (h : Head) → IsBegunBy around h 1 (λ more. second_shift_command (Took t ∷ more)) (Took t ∷ []) new answer) → IsBegunBy mode head 1 (λ more. command mode head (Took t ∷ more)) (Took t ∷ []) new answer
+first-second-shift mode head t new answer e k = rw e (k mode SecondShift)
+
+pub first-displayed : (mode : Mode) (head : Head) (t : Seen) (new : Scans) (answer : Fed Command) → head ≡ Displayed → ((around : Mode) (h : Head) → IsBegunBy around h 1 (λ more. displayed_command (Took t ∷ more)) (Took t ∷ []) new answer) → IsBegunBy mode head 1 (λ more. command mode head (Took t ∷ more)) (Took t ∷ []) new answer
+first-displayed mode head t new answer e k = rw e (k mode Displayed)
+
 pub first-part : (mode : Mode) (head : Head) (part : AtomPart) (t : Seen) (new : Scans) (answer : Fed Command) → head ≡ Part part → Begins (λ more. part_command (Took t ∷ more)) new answer → IsBegunBy mode head 1 (λ more. command mode head (Took t ∷ more)) (Took t ∷ []) new answer
 first-part mode head part t new answer e k = rw e (one-token mode (Part part) (λ more. part_command (Took t ∷ more)) t new answer (k mode (Part part)))
+
+pub first-delimiting : (mode : Mode) (head : Head) (what : Delimiting) (t : Seen) (new : Scans) (answer : Fed Command) → head ≡ Delimiting_head what → Begins (λ more. delimiter_command (Took t ∷ more)) new answer → IsBegunBy mode head 1 (λ more. command mode head (Took t ∷ more)) (Took t ∷ []) new answer
+first-delimiting mode head what t new answer e k = rw e (one-token mode (Delimiting_head what) (λ more. delimiter_command (Took t ∷ more)) t new answer (k mode (Delimiting_head what)))
+
+pub first-accenting : (mode : Mode) (head : Head) (prefixes : Prefixes) (t : Seen) (new : Scans) (answer : Fed Command) → head ≡ Accenting prefixes → ((around : Mode) (h : Head) → IsBegunBy around h 1 (λ more. accent_command mode prefixes (Took t ∷ more)) (Took t ∷ []) new answer) → IsBegunBy mode head 1 (λ more. command mode head (Took t ∷ more)) (Took t ∷ []) new answer
+first-accenting mode head prefixes t new answer e k = rw e (k mode (Accenting prefixes))
 
 pub first-defining : {E : Type 0} (mode : Mode) (head : Head) (prefixes : Prefixes) (name : Place) (kind : Shorthand) (t : Seen) (new : Scans) (made : Command) (answer : Result (Fed Whole) E) → head ≡ Defining prefixes name kind → ((m : Mode) (h : Head) (c : Command) → IfOk answer (λ a. IsBegunBy m h 1 (λ more. assigning (Named name kind) (Took t ∷ more)) (Took t ∷ []) new (told new c a))) → IfOk answer (λ a. IsBegunBy mode head 1 (λ more. command mode head (Took t ∷ more)) (Took t ∷ []) new (told new made a))
 first-defining mode head prefixes name kind t new made (Ok answer) e k = rw e (k mode (Defining prefixes name kind) made)
@@ -439,6 +506,10 @@ first-sized mode head kind old new t answer is same fits needs holds =
       needs = rw is (needs-mapped (λ measure. Sized kind measure.size) 1 (dimen_needed new.size) answer (needs-least (dimen_needed old) 1 (dimen_needed new.size) answer (rw same (omega arith)) needs));
       goes_on = size-goes (λ measure. Sized kind measure.size) kind new answer is holds;
     }
+
+pub first-thickness : {E : Type 0} (mode : Mode) (head : Head) (left right : ℕ) (t : Seen) (new : Scans) (answer : Result (Fed Command) E) → head ≡ Thickness left right → ((m : Mode) (h : Head) → IfOk answer (IsBegunBy m h 1 (λ more. sizing (size.Item Above) (Took t ∷ more)) (Took t ∷ []) new)) → IfOk answer (IsBegunBy mode head 1 (λ more. command mode head (Took t ∷ more)) (Took t ∷ []) new)
+first-thickness mode head left right t new (Ok answer) e k = rw e (k mode (Thickness left right))
+first-thickness mode head left right t new (Err error) e k = tt
 
 pub first-shaping : {E : Type 0} (mode : Mode) (head : Head) (prefixes : Prefixes) (left : ℕ) (sizes : List ℤ) (t : Seen) (new : Scans) (answer : Result (Fed Command) E) → head ≡ Shaping_head prefixes left sizes → ((m : Mode) (h : Head) → IfOk answer (IsBegunBy m h 1 (λ more. sizing size.Shape (Took t ∷ more)) (Took t ∷ []) new)) → IfOk answer (IsBegunBy mode head 1 (λ more. command mode head (Took t ∷ more)) (Took t ∷ []) new)
 first-shaping mode head prefixes left sizes t new (Ok answer) e k = rw e (k mode (Shaping_head prefixes left sizes))

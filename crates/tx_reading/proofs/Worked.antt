@@ -6,6 +6,8 @@ use Rattle.tx_char.specs.Category.{initial_category}
 use Rattle.tx_prim.specs.declared.primitive.Primitive.{Primitive}
 use Rattle.tx_prim.specs.declared.primitive.Primitive.TheVariants as primitive
 use Rattle.tx_prim.specs.declared.family.BoxSource.TheVariants.{Split}
+use Rattle.tx_prim.specs.declared.family.CodedKind.TheVariants as coded
+use Rattle.tx_prim.specs.declared.family.DelimiterUse.TheVariants.{Left}
 use Rattle.tx_prim.specs.declared.family.BreakText.TheVariants.{Behind}
 use Rattle.tx_shape.specs.declared.types.BoxContext.TheVariants.{Append}
 use Rattle.tx_shape.specs.declared.types.Opener.TheVariants as opener
@@ -16,9 +18,9 @@ use Rattle.tx_prim.specs.declared.family.RuleKind.TheVariants.{Vertical as Verti
 use Rattle.tx_prim.specs.declared.family.Shorthand.TheVariants as shorthand
 use Rattle.tx_prim.specs.declared.family.SizeKind.TheVariants.{Kern}
 use Rattle.tx_prim.specs.declared.family.TextUse.TheVariants.{Patterns}
-use Rattle.tx_prim.specs.declared.modes.Mode.TheVariants.{Vertical, RestrictedHorizontal}
+use Rattle.tx_prim.specs.declared.modes.Mode.TheVariants.{Vertical, RestrictedHorizontal, Math}
 use Rattle.tx_prim.specs.Table.{line_of}
-use Rattle.tx_seen.specs.declared.error.TexError.TheVariants.{MissingUnit, NumberOutOfRange, NoAssignment, NotAllowed}
+use Rattle.tx_seen.specs.declared.error.TexError.TheVariants.{MissingUnit, NumberOutOfRange, NoAssignment, NotAllowed, MissingDelimiter}
 use Rattle.tx_seen.specs.declared.fed.Kind.TheVariants.{Quantity}
 use Rattle.tx_seen.specs.declared.fed.Value.TheVariants.{Int}
 use Rattle.tx_seen.specs.declared.item.Item.{Item}
@@ -29,7 +31,8 @@ use Rattle.tx_seen.specs.Readings.{Need, Done, Wrong}
 use Rattle.tx_eqtb.specs.declared.entry.Entry.TheVariants.{Number, Means}
 use Rattle.tx_assign.specs.declared.types.Change.TheVariants.{Set, Compute}
 use Rattle.tx_command.specs.declared.types.Command.TheVariants as command
-use Rattle.tx_command.specs.declared.types.Head.TheVariants.{Fresh, Prefixed, Defining, Shaping, Opening}
+use Rattle.tx_command.specs.declared.types.Head.TheVariants.{Fresh, Prefixed, Defining, Shaping, Opening, Delimiting, Accenting}
+use Rattle.tx_command.specs.declared.types.Delimiting.TheVariants.{First}
 use Rattle.tx_command.specs.declared.types.Prefixes.{Prefixes}
 use Rattle.tx_command.specs.declared.types.SizeUse.TheVariants.{Item as An_item, Shape}
 use Rattle.tx_command.specs.Commands.{command as read}
@@ -148,3 +151,21 @@ patterns_behind_global = refl
 
 patterns_behind_long : read Vertical (Prefixed (record { global = false; long = true; outer = false })) (named (codes "patterns") (primitive.Text Patterns) ∷ []) ≡ Wrong NoAssignment
 patterns_behind_long = refl
+
+a_full_stop_as_a_delimiter : read Math (Delimiting (First Left)) (plain (codes ".b")) ≡ Done (command.Character 46) (plain (codes "b"))
+a_full_stop_as_a_delimiter = refl
+
+a_number_as_a_delimiter : read Math (Delimiting (First Left)) (named (codes "delimiter") (primitive.Coded coded.Delimiter) ∷ plain (codes "16 b")) ≡ Done (command.Coded coded.Delimiter (pos 16)) (plain (codes "b"))
+a_number_as_a_delimiter = refl
+
+a_brace_is_no_delimiter : read Math (Delimiting (First Left)) (a_begin_group ∷ []) ≡ Wrong MissingDelimiter
+a_brace_is_no_delimiter = refl
+
+a_letter_below_an_accent : read RestrictedHorizontal (Accenting unprefixed) (plain (codes "eb")) ≡ Done (command.Character 101) (plain (codes "b"))
+a_letter_below_an_accent = refl
+
+an_accent_before_a_brace : read RestrictedHorizontal (Accenting unprefixed) (a_begin_group ∷ plain (codes "e")) ≡ Done command.EndAccent (a_begin_group ∷ plain (codes "e"))
+an_accent_before_a_brace = refl
+
+setbox_behind_an_accent : read RestrictedHorizontal (Accenting (record unprefixed { global = true })) (named (codes "setbox") primitive.SetBox ∷ []) ≡ Wrong NotAllowed
+setbox_behind_an_accent = refl

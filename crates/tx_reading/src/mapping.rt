@@ -168,6 +168,8 @@ fn command_of(shaped: Shaped) -> Command
         Shaped::Skip(glue) => Command::Skip(glue),
         Shaped::Character(code) => Command::Character(code),
         Shaped::MathCharacter(number) => Command::MathCharacter(number),
+        Shaped::Coded(kind, number) => Command::Coded(kind, number),
+        Shaped::Accent(code) => Command::BeginAccent(code),
         Shaped::MathSkip(glue) => Command::MathSkip(glue),
         Shaped::SetFactor(number) => Command::SetFactor(number),
         Shaped::SetPrevGraf(number) => Command::SetPrevGraf(number),

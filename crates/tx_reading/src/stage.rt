@@ -12,7 +12,7 @@ use crate::mapping::{
     assigned, defined, font_defined, future_defined, led, loaded, macro_defined, put_shaped,
     put_whole, ruled, shaped, sized,
 };
-use crate::standing::{may_be_prefixed, standing_in};
+use crate::standing::{is_assignment, may_be_prefixed, standing_in};
 use std::alloc::AllocError;
 use tx_assign::{Assigning, Assignment, Change, Variable};
 use tx_char::Cat;
@@ -21,12 +21,12 @@ use tx_command::{
 };
 use tx_eqtb::Entry;
 use tx_prim::{
-    AfterKind, AlignWord, AtomPart, BreakText, GlueForm, GlueParameter, Indentation, LeadersKind,
-    Mode, Primitive, Shorthand, SizeKind, Standing,
+    AfterKind, AlignWord, AtomPart, BreakText, CodedKind, GlueForm, GlueParameter, Indentation,
+    LeadersKind, Mode, Primitive, RuleKind, Shorthand, SizeKind, Standing,
 };
 use tx_scan::NameScan;
 use tx_seen::{Fed, Meaning, Place, Seen, TexError, Value, Want};
-use tx_shape::{Opener, Shaping};
+use tx_shape::{BoxContext, Opener, Shaping};
 
 /// Whether a token that means this is one that \noexpand holds.
 fn is_held(meaning: &Meaning) -> bool
@@ -101,6 +101,18 @@ fn is_unrestricted(mode: Mode) -> bool
     matches!(mode, Mode::Horizontal)
 }
 
+/// Whether a part of an atom begins with a primitive.
+fn is_part_begun(primitive: Primitive) -> bool
+    ensures { result ≡ commands.is_part_begun primitive }
+{
+    match primitive {
+        Primitive::Char | Primitive::MathChar => true,
+        Primitive::Coded(CodedKind::Delimiter) => true,
+        // all others alike
+        _ => false,
+    }
+}
+
 /// Whether a part of an atom begins with a token that means this.
 fn is_part(meaning: &Meaning) -> bool
     ensures { result ≡ commands.is_part meaning.now }
@@ -108,10 +120,43 @@ fn is_part(meaning: &Meaning) -> bool
     match meaning {
         Meaning::Character(_, Cat::BeginGroup | Cat::Letter | Cat::Other) => true,
         Meaning::CharacterNumber(_) | Meaning::MathNumber(_) => true,
-        Meaning::Command(Primitive::Char | Primitive::MathChar) => true,
+        Meaning::Command(primitive) => is_part_begun(*primitive),
         // all others alike
         _ => false,
     }
+}
+
+/// Whether a delimiter begins with a primitive.
+fn is_delimiter_begun(primitive: Primitive) -> bool
+    ensures { result ≡ commands.is_delimiter_begun primitive }
+{
+    matches!(primitive, Primitive::Coded(CodedKind::Delimiter))
+}
+
+/// Whether a delimiter begins with a token that means this.
+fn is_delimiter(meaning: &Meaning) -> bool
+    ensures { result ≡ commands.is_delimiter meaning.now }
+{
+    match meaning {
+        Meaning::Character(_, Cat::Letter | Cat::Other) => true,
+        Meaning::Command(primitive) => is_delimiter_begun(*primitive),
+        // all others alike
+        _ => false,
+    }
+}
+
+/// Whether there are prefixes at all.
+fn is_prefixed(prefixes: Prefixes) -> bool
+    ensures { result ≡ commands.is_prefixed prefixes }
+{
+    prefixes.global || prefixes.long || prefixes.outer
+}
+
+/// Whether a token that means this is \setbox.
+fn is_setbox(meaning: &Meaning) -> bool
+    ensures { result ≡ commands.is_setbox meaning.now }
+{
+    matches!(meaning, Meaning::Command(Primitive::SetBox))
 }
 
 /// The token of \aftergroup or \afterassignment. Its only error is that no more owners of a name can be counted.
@@ -134,6 +179,17 @@ fn leading_glue(mode: Mode, meaning: &Meaning) -> Option<GlueForm>
     match meaning {
         Meaning::Command(Primitive::HorizontalGlue(form)) if !vertical => Some(*form),
         Meaning::Command(Primitive::VerticalGlue(form)) if vertical => Some(*form),
+        // of all others alike
+        _ => None,
+    }
+}
+
+/// The rule that leaders repeat which begin with a token that means this; None where they don't.
+fn led_rule(meaning: &Meaning) -> Option<RuleKind>
+    ensures { result ≡ commands.led_rule meaning.now }
+{
+    match meaning {
+        Meaning::Command(Primitive::Rule(direction)) => Some(*direction),
         // of all others alike
         _ => None,
     }
@@ -466,8 +522,12 @@ fn begin_command(
         Head::Defining(_, _, _) => unreachable!(),
         Head::Future(_, _) => Ok(on(scans, Stage::SecondToken, Want::Raw)),
         Head::Leading(_, _) => Ok(feed_leading(scans, mode, token)),
+        Head::LeadingBox(_, _) => Ok(feed_leading(scans, mode, token)),
         Head::Shift => Ok(feed_shift(scans, mode, token)),
         Head::Part(_) => Ok(feed_atom(scans, token)),
+        Head::Delimiting(_) => Ok(feed_delimiter(scans, token)),
+        Head::Thickness(_, _) => feed_thickness(scans, token),
+        Head::Accenting(prefixes) => Ok(feed_accent(scans, mode, *prefixes, token)),
         Head::Loading(_, name) => feed_loading(scans, name, token),
         Head::Shaping(_, _, _) => feed_shape(scans, token),
         Head::Opening(opener) => Ok(feed_open(scans, *opener, token)),
@@ -475,6 +535,8 @@ fn begin_command(
         Head::Preamble => feed_preamble(scans, token),
         Head::Row => Ok(feed_row(scans, row_start(token), token)),
         Head::Entry => Ok(feed_row(scans, entry_start(token), token)),
+        Head::SecondShift => Ok(feed_second_shift(scans, token)),
+        Head::Displayed => Ok(feed_behind_display(scans, token)),
     }
 }
 
@@ -523,14 +585,44 @@ fn feed_leading(scans: &mut Scans, mode: Mode, token: &Seen) -> Fed<Command>
     }
 }
 
-/// The token behind a `$` that begins a formula, which is read again; a second `$` in a paragraph begins what isn't there yet.
+/// The token behind a `$` that begins a formula, which is read again; but a second `$` in a paragraph begins a displayed one.
 fn feed_shift(scans: &Scans, mode: Mode, token: &Seen) -> Fed<Command>
     ensures { (around : Mode) (head : Head) → IsBegunBy around head 1 (λ more. commands.shift_command mode (Took token.now ∷ more)) (Took token.now ∷ []) scans.now result }
 {
     if is_math_shift(&token.meaning) && is_unrestricted(mode) {
-        Fed::Wrong(TexError::BadFormula)
+        Fed::Done(Command::BeginDisplay, 0)
     } else {
         Fed::Done(Command::BeginFormula, 1)
+    }
+}
+
+/// The token behind a `$` that ends a displayed formula, which has to be another one.
+#[inline(never)]
+fn feed_second_shift(scans: &Scans, token: &Seen) -> Fed<Command>
+    ensures { (mode : Mode) (head : Head) → IsBegunBy mode head 1 (λ more. commands.second_shift_command (Took token.now ∷ more)) (Took token.now ∷ []) scans.now result }
+{
+    if token.is_undefined() {
+        return Fed::Wrong(TexError::Undefined);
+    }
+    if is_math_shift(&token.meaning) {
+        Fed::Done(Command::EndDisplay, 0)
+    } else {
+        Fed::Wrong(TexError::BadFormula)
+    }
+}
+
+/// The token behind a displayed formula, which is read again unless it is a space.
+#[inline(never)]
+fn feed_behind_display(scans: &Scans, token: &Seen) -> Fed<Command>
+    ensures { (mode : Mode) (head : Head) → IsBegunBy mode head 1 (λ more. commands.displayed_command (Took token.now ∷ more)) (Took token.now ∷ []) scans.now result }
+{
+    if token.is_undefined() {
+        return Fed::Wrong(TexError::Undefined);
+    }
+    if token.is_space() {
+        Fed::Done(Command::GoOn, 0)
+    } else {
+        Fed::Done(Command::GoOn, 1)
     }
 }
 
@@ -551,7 +643,89 @@ fn feed_atom(scans: &mut Scans, token: &Seen) -> Fed<Command>
     }
 }
 
-/// The rule that leaders repeat, or what is skipped before it; boxes aren't repeated yet.
+/// The first token of a delimiter, or what is skipped before it.
+#[inline(never)]
+fn feed_delimiter(scans: &mut Scans, token: &Seen) -> Fed<Command>
+    ensures { Begins (λ more. commands.delimiter_command (Took token.now ∷ more)) scans.new result }
+{
+    if token.is_undefined() {
+        return Fed::Wrong(TexError::Undefined);
+    }
+    if token.is_space() || token.is_relax() {
+        return Fed::Done(Command::Nothing, 0);
+    }
+    if is_delimiter(&token.meaning) {
+        begin(scans, &token.meaning)
+    } else {
+        Fed::Wrong(TexError::MissingDelimiter)
+    }
+}
+
+/// The first token of the size of a fraction's line. Its only error is want of memory.
+#[inline(never)]
+fn feed_thickness(scans: &mut Scans, token: &Seen) -> Result<Fed<Command>, AllocError>
+    ensures { (mode : Mode) (head : Head) → IfOk result (IsBegunBy mode head 1 (λ more. commands.sizing (SizeUse.Item SizeKind.Above) (Took token.now ∷ more)) (Took token.now ∷ []) scans.new) }
+{
+    scans.stage = Stage::Sized(SizeUse::Item(SizeKind::Above));
+    scans.size.restart(false, false);
+    Ok(sized(SizeUse::Item(SizeKind::Above), scans.size.feed(token)?))
+}
+
+/// The first token of what stands behind an accent, and perhaps behind prefixes.
+#[inline(never)]
+fn feed_accent(scans: &mut Scans, mode: Mode, prefixes: Prefixes, token: &Seen) -> Fed<Command>
+    ensures { (around : Mode) (head : Head) → IsBegunBy around head 1 (λ more. commands.accent_command mode prefixes (Took token.now ∷ more)) (Took token.now ∷ []) scans.new result }
+{
+    if is_prefixed(prefixes) {
+        feed_accent_prefixed(scans, prefixes, token)
+    } else {
+        feed_accented(scans, mode, token)
+    }
+}
+
+/// The same behind prefixes: an assignment, but for \setbox.
+fn feed_accent_prefixed(scans: &mut Scans, prefixes: Prefixes, token: &Seen) -> Fed<Command>
+    ensures { Begins (λ more. commands.accent_prefixed prefixes (Took token.now ∷ more)) scans.new result }
+{
+    if is_setbox(&token.meaning) {
+        Fed::Wrong(TexError::NotAllowed)
+    } else {
+        feed_prefixed(scans, prefixes, token)
+    }
+}
+
+/// The character below an accent, or what stands before it, or what ends the accent and is read again.
+fn feed_accented(scans: &mut Scans, mode: Mode, token: &Seen) -> Fed<Command>
+    ensures { (around : Mode) (head : Head) → IsBegunBy around head 1 (λ more. commands.accent_bare mode (Took token.now ∷ more)) (Took token.now ∷ []) scans.new result }
+{
+    if token.is_undefined() {
+        return Fed::Wrong(TexError::Undefined);
+    }
+    if token.is_space() || token.is_relax() {
+        return Fed::Done(Command::Nothing, 0);
+    }
+    if token.continues_word() {
+        begin(scans, &token.meaning)
+    } else {
+        feed_assigning(scans, mode, token)
+    }
+}
+
+/// The same where the token doesn't begin a character: an assignment, but for \setbox, or what ends the accent.
+fn feed_assigning(scans: &mut Scans, mode: Mode, token: &Seen) -> Fed<Command>
+    ensures { (around : Mode) (head : Head) → IsBegunBy around head 1 (λ more. commands.accent_assigning mode (Took token.now ∷ more)) (Took token.now ∷ []) scans.new result }
+{
+    if is_setbox(&token.meaning) {
+        return Fed::Wrong(TexError::NotAllowed);
+    }
+    if is_assignment(&token.meaning) {
+        feed_fresh(scans, mode, token)
+    } else {
+        Fed::Done(Command::EndAccent, 1)
+    }
+}
+
+/// The rule or the box that leaders repeat, or what is skipped before it.
 #[inline(never)]
 fn feed_leaders(scans: &mut Scans, kind: LeadersKind, token: &Seen) -> Fed<Command>
     ensures { Begins (λ more. commands.leaders_of kind (Took token.now ∷ more)) scans.new result }
@@ -562,14 +736,22 @@ fn feed_leaders(scans: &mut Scans, kind: LeadersKind, token: &Seen) -> Fed<Comma
     if token.is_space() || token.is_relax() {
         return on(scans, Stage::Leaders(kind), Want::Expanded);
     }
-    match &token.meaning {
-        Meaning::Command(Primitive::Rule(direction)) => {
-            scans.rule.begin(*direction);
+    match led_rule(&token.meaning) {
+        Some(direction) => {
+            scans.rule.begin(direction);
             on(scans, Stage::LeadersRule(kind), Want::Expanded)
         }
-        // of all others alike
-        _ => Fed::Wrong(TexError::MissingBox),
+        None => feed_led_box(scans, kind, token),
     }
+}
+
+/// The first token of the box that leaders repeat.
+#[inline(never)]
+fn feed_led_box(scans: &mut Scans, kind: LeadersKind, token: &Seen) -> Fed<Command>
+    ensures { Begins (λ more. commands.led_box kind (Took token.now ∷ more)) scans.new result }
+{
+    scans.stage = Stage::Shape;
+    shaped(scans.shape.feed_needed(BoxContext::Lead(kind), token))
 }
 
 /// The first token behind a name that is being defined. Its only error is want of memory.
@@ -744,12 +926,16 @@ fn begin_primitive(scans: &mut Scans, primitive: Primitive) -> Fed<Command>
         Primitive::Style(style) => Fed::Done(Command::SetStyle(style), 0),
         Primitive::Choice => Fed::Done(Command::BeginChoice, 0),
         Primitive::Fraction(kind) => Fed::Done(Command::BeginFraction(kind), 0),
+        Primitive::Delimited(what) => Fed::Done(Command::BeginDelimited(what), 0),
+        Primitive::Coded(kind) => begin_shape(scans, Shaping::Coded(kind)),
+        Primitive::Accent => begin_shape(scans, Shaping::Accent),
         Primitive::MathGlue => begin_shape(scans, Shaping::MathGlue),
         Primitive::Nonscript => Fed::Done(Command::Nonscript, 0),
         Primitive::FamilyFont(size) => begin_shape(scans, Shaping::Family(size)),
         Primitive::Insert => begin_shape(scans, Shaping::Insert),
         Primitive::Align => Fed::Done(Command::Align, 0),
         Primitive::AlignWord(_) => Fed::Wrong(TexError::MisplacedAlignment),
+        Primitive::EquationNumber(side) => Fed::Done(Command::BeginNumber(side), 0),
         Primitive::DeadCycles => begin_shape(scans, Shaping::DeadCycles),
         Primitive::Page(quantity) => begin_shape(scans, Shaping::Page(quantity)),
         Primitive::ItalicCorrection => Fed::Done(Command::ItalicCorrection, 0),

@@ -137,11 +137,15 @@ fn is_prefixable(prefixes: Prefixes, primitive: Primitive) -> bool
         | Primitive::Style(_)
         | Primitive::Choice
         | Primitive::Fraction(_)
+        | Primitive::Delimited(_)
+        | Primitive::Coded(_)
+        | Primitive::Accent
         | Primitive::MathGlue
         | Primitive::Nonscript
         | Primitive::Insert
         | Primitive::Align
         | Primitive::AlignWord(_)
+        | Primitive::EquationNumber(_)
         | Primitive::Discretionary => false,
     }
 }
@@ -161,4 +165,16 @@ pub fn may_be_prefixed(prefixes: Prefixes, meaning: &Meaning) -> bool
         Meaning::Expandable(_) | Meaning::Macro(_) => true,
         Meaning::Held => false,
     }
+}
+
+/// Whether a command is an assignment whose first token means this; what has no meaning, or is expanded, is let through.
+pub fn is_assignment(meaning: &Meaning) -> bool
+    ensures { result ≡ commands.is_assignment meaning.now }
+{
+    let none = Prefixes {
+        global: false,
+        long: false,
+        outer: false,
+    };
+    may_be_prefixed(none, meaning)
 }

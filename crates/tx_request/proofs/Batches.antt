@@ -1,16 +1,18 @@
 -- Reading the changes of a batch as they come in.
-use Rattle.std.proofs.Common.{◌≡◌, ℕ, suc, ◌-◌, List, [], ◌∷◌, ◌++◌, refl, sym, ap, ◌∙◌, append_assoc, arith}
+use Rattle.std.proofs.Common.{◌≡◌, ℕ, suc, ◌-◌, List, [], ◌∷◌, ◌++◌, length, refl, sym, ap, ◌∙◌, append_assoc, arith}
 use Rattle.std.specs.Prelude.{Option, Some, None, IfSome, IsSomeAnd, Ok, Err}
+use Rattle.std.specs.List.{flat_map}
 use Rattle.std.proofs.lemmas.List.{append-nil}
 use Rattle.tx_files.specs.declared.edit.Change.{Change}
 use Rattle.tx_script.specs.Text.{change_elements}
 use Rattle.tx_script.specs.Reading.{Read, ◌>>=◌}
+use Rattle.tx_script.proofs.Repeats.{AllSo}
 use Rattle.tx_request.specs.declared.stopped.Stopped.{Stopped}
 use Rattle.tx_request.specs.declared.stopped.Stopped.TheVariants.{Refused, Failed, OutOfMemory}
 use Rattle.tx_request.specs.Reading.{change_at, changes_at}
-use Rattle.tx_request.specs.Streaming.{StreamsOf}
-use Rattle.tx_request.proofs.Bodies.{change_reads, IsShortChange}
-use Rattle.tx_request.proofs.Streams.{ends_with, mapped_some, stops_behind, EndsWith}
+use Rattle.tx_request.specs.Streaming.{BreaksOff, StreamsOf}
+use Rattle.tx_request.proofs.Bodies.{change_reads, changes_reads, IsShortChange}
+use Rattle.tx_request.proofs.Streams.{ends_with, mapped_some, off_behind, off_on, reads_within, stops_behind, within_on, EndsWith, EndsWithin}
 
 -- with these in front
 abbrev pub behind : List Change → Read (List Change) → Read (List Change)
@@ -59,6 +61,20 @@ going-on fewer left count is done more c None now after more_is g e = tt
 going-on fewer left count is done more c (Some bytes) None after more_is g e = absurd g
 going-on fewer left count is done more c (Some bytes) (Some rest) after more_is g e = mapped_some after (λ next read. one_more fewer left count is done more c bytes rest next more_is g read) e
 
+-- nor do the changes behind one end before it
+abbrev with_first : ℕ → Change × List ℕ → Read (List Change)
+with_first fewer it = changes_at fewer it.1 >>= λ changes. Ok (it.0 ∷ changes.0, changes.1)
+
+others_within : (fewer : ℕ) (c : Change) (rest : List ℕ) → EndsWithin (with_first fewer (c, rest)) (length rest)
+others_within fewer c rest =
+    within_on (changes_at fewer rest) (λ (changes : List Change × List ℕ). Ok (c ∷ changes.0, changes.1)) (length rest) (λ changes last. omega arith)
+    (reads_within (AllSo IsShortChange fewer) (λ (changes : List Change). flat_map change_elements changes) rest (changes_at fewer rest) (changes_reads fewer rest))
+
+off_in : (fewer : ℕ) (done : List Change) (rest left : List ℕ) → BreaksOff rest (change_at rest) left → BreaksOff rest (behind done (change_at rest >>= with_first fewer)) left
+off_in fewer done rest left off =
+    off_on rest (change_at rest >>= with_first fewer) (λ (changes : List Change × List ℕ). Ok (done ++ changes.0, changes.1)) left (λ changes last. omega arith)
+    (off_on rest (change_at rest) (with_first fewer) left (others_within fewer) off)
+
 -- a change isn't read
 pub going-stops : (fewer left count : ℕ) → left ≡ suc fewer → (done : List Change) (e : Stopped) (before now after : Option (List ℕ))
     → Going left count done before now → StreamsOf {X = Change} (Err e) change_at now after → StreamsOf {X = List Change} (Err e) (changes_at count) before after
@@ -71,7 +87,9 @@ going-stops fewer left count is done (Refused rule passed) (Some bytes) (Some re
       ∙ ap (λ (r : Read Change). behind done (r >>= λ it. changes_at fewer it.1 >>= λ changes. Ok (it.0 ∷ changes.0, changes.1))) h.1,
   mapped_some after (λ last s. stops_behind bytes rest rule passed h.0 last g.ends s) h.2,
 )
-going-stops fewer left count is done Failed (Some bytes) (Some rest) after g h = tt
+going-stops fewer left count is done Failed (Some bytes) (Some rest) after g h =
+    mapped_some after (λ last off.
+    off_behind bytes rest (changes_at count bytes) (behind done (change_at rest >>= with_first fewer)) last g.ends (sym g.whole ∙ ap (λ (n : ℕ). behind done (changes_at n rest)) is) (off_in fewer done rest last off)) h
 going-stops fewer left count is done OutOfMemory (Some bytes) (Some rest) after g h = tt
 
 -- all are read

@@ -31,10 +31,10 @@ use Rattle.tx_request.specs.Requests.{most_bytes, request_elements, IsRequest, I
 use Rattle.tx_request.proofs.Heads.{change_line_elements, change_line_reads, head_elements, head_reads, line_of, nothing_reads, IsChangeLine, IsEditLine, IsHead}
 
 -- so many bytes and LF
-abbrev put_elements : List ℕ → List (Rule × List ℕ)
+abbrev pub put_elements : List ℕ → List (Rule × List ℕ)
 put_elements put = (Put, put) ∷ (LineFeed, 10 ∷ []) ∷ []
 
-bytes_reads : (size : ℕ) (bytes : List ℕ) → Reads (λ put. length put ≡ size) put_elements bytes (bytes_at size bytes)
+pub bytes_reads : (size : ℕ) (bytes : List ℕ) → Reads (λ put. length put ≡ size) put_elements bytes (bytes_at size bytes)
 unfolding bytes_at
 bytes_reads size bytes =
     after (λ put. length put ≡ size) (λ put. (Put, put) ∷ []) (λ put u. u ≡ put) (λ u. (LineFeed, 10 ∷ []) ∷ []) (λ put. length put ≡ size) (λ u. u)
@@ -129,7 +129,7 @@ change_reads bytes =
     (λ l rest h. change_behind_reads l h rest)
     bytes)
 
-changes_reads : (n : ℕ) (bytes : List ℕ) → Reads (AllSo IsShortChange n) (λ changes. flat_map change_elements changes) bytes (changes_at n bytes)
+pub changes_reads : (n : ℕ) (bytes : List ℕ) → Reads (AllSo IsShortChange n) (λ changes. flat_map change_elements changes) bytes (changes_at n bytes)
 unfolding changes_at
 changes_reads n bytes = repeated IsShortChange change_elements change_at changes_at (λ bytes. refl) (λ n bytes. refl) change_reads n bytes
 

@@ -1,5 +1,5 @@
 -- A line that was read of some bytes is read as these bytes are.
-use Rattle.std.proofs.Common.{◌≡◌, ℕ, zero, suc, ◌+◌, ◌<◌, ◌≤◌, min, Bool, true, false, cond, eqb, List, [], ◌∷◌, ◌++◌, length, take, drop, refl, sym, ap, subst, ◌∙◌, append_assoc, arith, ◌⊎◌, inl, inr}
+use Rattle.std.proofs.Common.{◌≡◌, ℕ, zero, suc, ◌+◌, ◌<◌, ◌≤◌, min, Bool, true, false, cond, eqb, List, [], ◌∷◌, ◌++◌, length, take, drop, refl, sym, ap, subst, ◌∙◌, append_assoc, arith, ◌⊎◌, inl, inr, true≢false}
 use Rattle.std.specs.Prelude.{Some, Ok, Err, slice_get}
 use Rattle.std.proofs.lemmas.List.{append-nil, length-append, length-take}
 use Rattle.tx_io.specs.Inlet.{behind_line, line_len, line_of}
@@ -9,11 +9,11 @@ use Rattle.tx_script.specs.Text.{bytes_of, rules_of}
 use Rattle.tx_script.specs.Reading.{Read}
 use Rattle.tx_script.proofs.Forms.{Breaks, Reads, failed, ok_or_err}
 use Rattle.tx_script.proofs.Parts.{two_fronts}
-use Rattle.tx_request.specs.Streaming.{is_whole, most_line, StopsAt}
-use Rattle.tx_request.proofs.Lines.{behind_line-first, behind_line-plain, ending, line_len-first, line_len-plain, plain_front, some_line_len, Ending, Ended, IsLine, IsPlain, Open}
+use Rattle.tx_request.specs.Streaming.{is_whole, most_line, IsPlain, StopsAt}
+use Rattle.tx_request.proofs.Lines.{behind_line-first, behind_line-plain, ending, line_len-first, line_len-plain, plain_back, plain_front, some_line_len, Ending, Ended, IsLine, Open}
 
 -- a list parted in two ways: where the first parts are of one length, and where one is longer
-same_front : (a b x y : List ℕ) → a ++ x ≡ b ++ y → length a ≡ length b → (a ≡ b) × (x ≡ y)
+pub same_front : (a b x y : List ℕ) → a ++ x ≡ b ++ y → length a ≡ length b → (a ≡ b) × (x ≡ y)
 same_front [] [] x y e long = (refl, e)
 same_front [] (c ∷ b) x y e long = absurd (omega arith)
 same_front (c ∷ a) [] x y e long = absurd (omega arith)
@@ -104,7 +104,7 @@ cut_of line bytes e = record {
     sizes : length line ≡ min most_line (min (line_len bytes) (length bytes))
     sizes = ap length e ∙ length-take most_line (take (line_len bytes) bytes) ∙ ap (λ (n : ℕ). min most_line n) (length-take (line_len bytes) bytes)
 
-none_is : (bytes : List ℕ) → length bytes ≡ 0 → bytes ≡ []
+pub none_is : (bytes : List ℕ) → length bytes ≡ 0 → bytes ≡ []
 none_is [] e = refl
 none_is (c ∷ bytes) e = absurd (omega arith)
 
@@ -187,6 +187,11 @@ module _ {V : Type 0} (F : V → Type 0) (p : V → List (Rule × List ℕ)) (r 
           ∙ ap behind_line (sym (append_assoc first (10 ∷ []) after) ∙ ap (λ (x : List ℕ). x ++ after) (sym is) ∙ sym cut.split ∙ bytes_are)
           ∙ behind_line-plain d.read (d.rest ++ after) plain
 
+      unended : Ending line → is_whole line ≡ false → after ≡ [] → IsPlain (d.rest ++ after)
+      unended (Open plain_line not) lacks none =
+          subst (λ (x : List ℕ). IsPlain (d.rest ++ x)) (sym none) (subst IsPlain (sym (append-nil d.rest)) (plain_back d.read d.rest (subst IsPlain d.split plain_line)))
+      unended (Ended first plain_first is whole) not none = absurd (true≢false (sym whole ∙ not))
+
       by : (rest : List ℕ) → d.rest ≡ rest → IsStop r line bytes after b
       by [] none =
           let all : line ≡ d.read = d.split ∙ ap (λ (x : List ℕ). d.read ++ x) none ∙ append-nil d.read in
@@ -206,6 +211,9 @@ module _ {V : Type 0} (F : V → Type 0) (p : V → List (Rule × List ℕ)) (r 
               split = bytes_are;
               left = ap (λ (x : List ℕ). length (d.rest ++ x)) over ∙ ap length (append-nil d.rest) ∙ d.left;
               rest_is = rest_is ends;
+              unended = unended ends;
+              taken = line;
+              are = cut.split;
             };
           }
       by (c ∷ others) is = record {
@@ -218,6 +226,9 @@ module _ {V : Type 0} (F : V → Type 0) (p : V → List (Rule × List ℕ)) (r 
           split = bytes_are;
           left = refl;
           rest_is = rest_is ends;
+          unended = unended ends;
+          taken = line;
+          are = cut.split;
         };
       }
         where

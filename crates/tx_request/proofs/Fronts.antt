@@ -17,7 +17,7 @@ use Rattle.tx_request.specs.Streaming.{StopsAt}
 use Rattle.tx_request.proofs.Bodies.{request_reads}
 
 -- the text of a request isn't empty
-some_text : (r : Request) → 0 < length (text r)
+pub some_text : (r : Request) → 0 < length (text r)
 some_text (Command (Lone (Edit e))) = omega arith
 some_text (Command (Lone (Remove name))) = omega arith
 some_text (Command (Batch changes)) = omega arith

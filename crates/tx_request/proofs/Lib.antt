@@ -7,4 +7,5 @@ mod Cuts
 mod Streams
 mod Batches
 mod Fronts
+mod BrokenOff
 mod Pieces

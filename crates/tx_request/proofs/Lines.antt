@@ -18,14 +18,10 @@ use Rattle.tx_request.specs.declared.head.ChangeLine.TheVariants as lines
 use Rattle.tx_request.specs.declared.head.Head.{Head}
 use Rattle.tx_request.specs.declared.head.Head.TheVariants as heads
 use Rattle.tx_request.specs.Requests.{paged}
-use Rattle.tx_request.specs.Streaming.{is_whole, most_line}
+use Rattle.tx_request.specs.Streaming.{is_whole, most_line, IsPlain}
 use Rattle.tx_request.proofs.Heads.{change_line_elements, head_elements, line_elements, IsChangeLine, IsEditLine, IsHead}
 
 -- bytes without LF
-abbrev pub IsPlain : List ℕ → Type 0
-IsPlain [] = Unit {0}
-IsPlain (c ∷ bytes) = (c ≡ 10 → ⊥) × IsPlain bytes
-
 pub plain-append : (a b : List ℕ) → IsPlain a → IsPlain b → IsPlain (a ++ b)
 plain-append [] b ha hb = hb
 plain-append (c ∷ a) b ha hb = (ha.0, plain-append a b ha.1 hb)
@@ -37,6 +33,11 @@ plain_front (c ∷ a) b h = (h.0, plain_front a b h.1)
 pub plain_back : (a b : List ℕ) → IsPlain (a ++ b) → IsPlain b
 plain_back [] b h = h
 plain_back (c ∷ a) b h = plain_back a b h.1
+
+pub plain_drop : (n : ℕ) (bytes : List ℕ) → IsPlain bytes → IsPlain (drop n bytes)
+plain_drop zero bytes h = h
+plain_drop (suc n) [] h = tt
+plain_drop (suc n) (c ∷ bytes) h = plain_drop n bytes h.1
 
 plain_from : (bytes : List ℕ) → ((front more : List ℕ) → bytes ≡ front ++ 10 ∷ more → ⊥) → IsPlain bytes
 plain_from [] none = tt
@@ -90,7 +91,7 @@ some_line_len c bytes = by (eqb c 10)
     by false = omega arith
 
 -- what follows it
-drop_past : (a b : List ℕ) (n : ℕ) → drop (length a + n) (a ++ b) ≡ drop n b
+pub drop_past : (a b : List ℕ) (n : ℕ) → drop (length a + n) (a ++ b) ≡ drop n b
 drop_past [] b n = let e : 0 + n ≡ n = omega arith in ap (λ (k : ℕ). drop k b) e
 drop_past (c ∷ a) b n = let e : suc (length a) + n ≡ suc (length a + n) = omega arith in ap (λ (k : ℕ). drop k (c ∷ a ++ b)) e ∙ drop_past a b n
 

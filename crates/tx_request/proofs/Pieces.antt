@@ -1,7 +1,7 @@
 -- Each piece of a request, read of an inlet.
-use Rattle.std.proofs.Common.{◌≡◌, ℕ, zero, suc, Bool, cond, List, [], ◌∷◌, length, take, drop, refl, sym, ap, subst, ◌∙◌, arith}
+use Rattle.std.proofs.Common.{◌≡◌, ℕ, zero, suc, ◌<◌, Bool, cond, List, [], ◌∷◌, length, take, drop, refl, sym, ap, subst, ◌∙◌, arith}
 use Rattle.std.specs.Prelude.{Option, Some, None, IsErrAnd, IsSomeAnd, Result, Ok, Err}
-use Rattle.std.proofs.lemmas.List.{length-take}
+use Rattle.std.proofs.lemmas.List.{length-append, length-take}
 use Rattle.tx_files.specs.declared.edit.Edit.{Edit as FileEdit}
 use Rattle.tx_files.specs.declared.edit.Change.{Change}
 use Rattle.tx_files.specs.declared.edit.Change.TheVariants.{Edit, Remove}
@@ -10,6 +10,7 @@ use Rattle.tx_script.specs.declared.command.Command.TheVariants.{Change as Lone,
 use Rattle.tx_script.specs.declared.command.FilePlace.{FilePlace}
 use Rattle.tx_script.specs.declared.error.Fault.{Fault}
 use Rattle.tx_script.specs.declared.error.Rule.{Rule}
+use Rattle.tx_script.specs.Text.{bytes_of, change_elements}
 use Rattle.tx_script.specs.Reading.{Fails}
 use Rattle.tx_script.proofs.Changes.{edit_of}
 use Rattle.tx_request.specs.declared.head.EditLine.{EditLine}
@@ -25,12 +26,14 @@ use Rattle.tx_request.specs.declared.request.Request.TheVariants.{Command, File,
 use Rattle.tx_request.specs.declared.stopped.Stopped.{Stopped}
 use Rattle.tx_request.specs.declared.stopped.Stopped.TheVariants.{Refused, Failed, OutOfMemory}
 use Rattle.tx_request.specs.Reading.{bytes_at, change_at, change_behind, change_line_at, changes_at, edit_behind, head_at, request_at, request_behind}
-use Rattle.tx_request.specs.Requests.{IsAtFront, IsNext, IsRefused}
-use Rattle.tx_request.specs.Streaming.{is_whole, most_line, refused_in, AsksOf, Refuses, StreamsOf, Took}
-use Rattle.tx_request.proofs.Fronts.{asked, refusal}
+use Rattle.tx_request.specs.Requests.{request_elements, IsAtFront, IsBrokenOff, IsNext, IsRefused, IsRequest}
+use Rattle.tx_request.specs.Streaming.{is_whole, most_line, refused_in, AsksOf, EndsPast, Refuses, StopsAt, StreamsOf, Took}
+use Rattle.tx_request.proofs.Bodies.{bytes_reads, change_reads, put_elements, request_reads, IsShortChange}
+use Rattle.tx_request.proofs.BrokenOff.{broken_off, refused_off}
+use Rattle.tx_request.proofs.Fronts.{asked, refusal, some_text}
 use Rattle.tx_request.proofs.Heads.{change_line_elements, change_line_reads, head_elements, head_reads, IsChangeLine, IsHead}
 use Rattle.tx_request.proofs.Lines.{change_line_is, head_is, some_line_len}
-use Rattle.tx_request.proofs.Streams.{at_once, ends_with, line_err, line_ok, made, mapped_some, on_err, on_ok}
+use Rattle.tx_request.proofs.Streams.{at_once, ends_with, line_err, line_ok, made, mapped_some, on_err, on_ok, on_refused, reads_past, untaken}
 
 -- an edit
 abbrev pub edit_for : EditLine → List ℕ → FileEdit
@@ -38,7 +41,7 @@ edit_for l put = edit_of l.place l.removed l.name put
 
 pub edit_fails : (line : EditLine) (e : Stopped) (before after : Option (List ℕ)) → StreamsOf {X = List ℕ} (Err e) (bytes_at line.size) before after → StreamsOf {X = FileEdit} (Err e) (edit_behind line) before after
 unfolding edit_behind
-edit_fails line e before after h = on_err {X = List ℕ} {Y = FileEdit} e (bytes_at line.size) (λ (put : List ℕ × List ℕ). Ok (edit_for line put.0, put.1)) before after h
+edit_fails line e before after h = on_err {X = List ℕ} {Y = FileEdit} e (bytes_at line.size) (λ (put : List ℕ × List ℕ). Ok (edit_for line put.0, put.1)) (λ put rest. omega arith) before after h
 
 pub edit_made : (line : EditLine) (put : List ℕ) (before after : Option (List ℕ)) → StreamsOf (Ok put) (bytes_at line.size) before after → StreamsOf (Ok (edit_for line put)) (edit_behind line) before after
 unfolding edit_behind
@@ -49,7 +52,7 @@ pub change_fails : (l : ChangeLine) (line : EditLine) → l ≡ lines.Edit line 
 unfolding change_behind
 change_fails l line is e before after h =
     subst (λ (x : ChangeLine). StreamsOf {X = Change} (Err e) (change_behind x) before after) (sym is)
-    (on_err {X = FileEdit} {Y = Change} e (edit_behind line) (λ (x : FileEdit × List ℕ). Ok (Edit x.0, x.1)) before after h)
+    (on_err {X = FileEdit} {Y = Change} e (edit_behind line) (λ (x : FileEdit × List ℕ). Ok (Edit x.0, x.1)) (λ x rest. omega arith) before after h)
 
 pub change_edits : (l : ChangeLine) (line : EditLine) → l ≡ lines.Edit line → (e : FileEdit) (before after : Option (List ℕ)) → StreamsOf (Ok e) (edit_behind line) before after → StreamsOf (Ok (Edit e)) (change_behind l) before after
 unfolding change_behind
@@ -74,8 +77,8 @@ pub next_fails : (line slice again : List ℕ) → slice ≡ line → again ≡ 
     → Took (Ok line) (λ bytes. take most_line (line_of bytes)) before after → StreamsOf {X = Change} (Err e) change_at before after
 unfolding change_at
 next_fails line slice again same same' fault fails e is before after took =
-    on_err {X = ChangeLine} {Y = Change} e change_line_at (λ (l : ChangeLine × List ℕ). change_behind l.0 l.1) before after
-    (subst (λ (x : Stopped). StreamsOf {X = ChangeLine} (Err x) change_line_at before after) (sym (is ∙ ap (λ (x : List ℕ). refused_in (is_whole x) fault) same'))
+    subst (λ (x : Stopped). StreamsOf {X = Change} (Err x) change_at before after) (sym (is ∙ ap (λ (x : List ℕ). refused_in (is_whole x) fault) same'))
+    (on_refused {X = ChangeLine} {Y = Change} (is_whole line) fault change_line_at (λ (l : ChangeLine × List ℕ). change_behind l.0 l.1) before after
     (line_err IsChangeLine change_line_elements change_line_at change_line_reads change_line_is line before after took fault (subst (λ (x : List ℕ). Fails fault (change_line_at x)) same fails)))
 
 -- a request, behind its line
@@ -88,7 +91,7 @@ pub request_changes_not : (h : Head) (l : ChangeLine) → h ≡ heads.Change l �
 unfolding request_behind
 request_changes_not h l is e before after k =
     subst (λ (x : Head). StreamsOf {X = Request} (Err e) (request_behind x) before after) (sym is)
-    (on_err {X = Change} {Y = Request} e (change_behind l) (λ (x : Change × List ℕ). Ok (Command (Lone x.0), x.1)) before after k)
+    (on_err {X = Change} {Y = Request} e (change_behind l) (λ (x : Change × List ℕ). Ok (Command (Lone x.0), x.1)) (λ x rest. omega arith) before after k)
 
 pub request_batches : (h : Head) (n : ℕ) → h ≡ heads.Batch n → (changes : List Change) (before after : Option (List ℕ)) → StreamsOf (Ok changes) (changes_at n) before after → StreamsOf (Ok (Command (Batch changes))) (request_behind h) before after
 unfolding request_behind
@@ -99,7 +102,7 @@ pub request_batches_not : (h : Head) (n : ℕ) → h ≡ heads.Batch n → (e : 
 unfolding request_behind
 request_batches_not h n is e before after k =
     subst (λ (x : Head). StreamsOf {X = Request} (Err e) (request_behind x) before after) (sym is)
-    (on_err {X = List Change} {Y = Request} e (changes_at n) (λ (x : List Change × List ℕ). Ok (Command (Batch x.0), x.1)) before after k)
+    (on_err {X = List Change} {Y = Request} e (changes_at n) (λ (x : List Change × List ℕ). Ok (Command (Batch x.0), x.1)) (λ x rest. omega arith) before after k)
 
 abbrev pub file_for : List ℕ → List ℕ → FileContents
 file_for name contents = record { name = name; contents = contents }
@@ -113,7 +116,7 @@ pub request_fills_not : (h : Head) (size : ℕ) (name : List ℕ) → h ≡ head
 unfolding request_behind
 request_fills_not h size name is e before after k =
     subst (λ (x : Head). StreamsOf {X = Request} (Err e) (request_behind x) before after) (sym is)
-    (on_err {X = List ℕ} {Y = Request} e (bytes_at size) (λ (x : List ℕ × List ℕ). Ok (File (file_for name x.0), x.1)) before after k)
+    (on_err {X = List ℕ} {Y = Request} e (bytes_at size) (λ (x : List ℕ × List ℕ). Ok (File (file_for name x.0), x.1)) (λ x rest. omega arith) before after k)
 
 -- one that ends with its line
 pub request_ends : (h : Head) (r : Request) → ((bytes : List ℕ) → request_behind h bytes ≡ Ok (r, bytes)) → (left : Option (List ℕ)) → StreamsOf (Ok r) (request_behind h) left left
@@ -177,7 +180,7 @@ pub asks_not : (line : List ℕ) (before between after : Option (List ℕ)) → 
     → (e : Stopped) → StreamsOf {X = Request} (Err e) request_at before after → AsksOf (Err e) before after
 asks_not line None between after took some e h = tt
 asks_not line (Some bytes) between after took some (Refused rule passed) h = (λ is. some_came line bytes took.0 some is, h)
-asks_not line (Some bytes) between after took some Failed h = tt
+asks_not line (Some bytes) between after took some Failed h = h
 asks_not line (Some bytes) between after took some OutOfMemory h = tt
 
 pub asks_as : (r : Result (Option Request) Stopped) (e : Stopped) (before after : Option (List ℕ)) → IsErrAnd r (λ x. x ≡ e) → AsksOf (Err e) before after → AsksOf r before after
@@ -188,11 +191,38 @@ pub request_fails : (line slice again : List ℕ) → slice ≡ line → again �
     → Took (Ok line) (λ bytes. take most_line (line_of bytes)) before after → StreamsOf {X = Request} (Err e) request_at before after
 unfolding request_at
 request_fails line slice again same same' fault fails e is before after took =
-    on_err {X = Head} {Y = Request} e head_at (λ (l : Head × List ℕ). request_behind l.0 l.1) before after
-    (subst (λ (x : Stopped). StreamsOf {X = Head} (Err x) head_at before after) (sym (is ∙ ap (λ (x : List ℕ). refused_in (is_whole x) fault) same'))
+    subst (λ (x : Stopped). StreamsOf {X = Request} (Err x) request_at before after) (sym (is ∙ ap (λ (x : List ℕ). refused_in (is_whole x) fault) same'))
+    (on_refused {X = Head} {Y = Request} (is_whole line) fault head_at (λ (l : Head × List ℕ). request_behind l.0 l.1) before after
     (line_err IsHead head_elements head_at head_reads head_is line before after took fault (subst (λ (x : List ℕ). Fails fault (head_at x)) same fails)))
 
+-- nothing was taken, for no fault of the bytes
+request_past : (bytes : List ℕ) → EndsPast (request_at bytes) (length bytes)
+request_past bytes = reads_past IsRequest request_elements bytes (request_at bytes) some_text (request_reads bytes)
+
+some_change_text : (c : Change) → 0 < length (bytes_of (change_elements c))
+some_change_text (Edit e) = omega arith
+some_change_text (Remove name) = omega arith
+
+pub change_untaken : (e : Stopped) (front : List ℕ → List ℕ) (before after : Option (List ℕ)) → Took (Err e) front before after → StreamsOf {X = Change} (Err e) change_at before after
+change_untaken e front before after took = untaken e front change_at (λ bytes. reads_past IsShortChange change_elements bytes (change_at bytes) some_change_text (change_reads bytes)) before after took
+
+some_put : (put : List ℕ) → 0 < length (bytes_of (put_elements put))
+some_put put = omega (arith, length-append put (10 ∷ []))
+
+pub bytes_untaken : (size : ℕ) (e : Stopped) (front : List ℕ → List ℕ) (before after : Option (List ℕ)) → Took (Err e) front before after → StreamsOf {X = List ℕ} (Err e) (bytes_at size) before after
+bytes_untaken size e front before after took = untaken e front (bytes_at size) (λ bytes. reads_past (λ (put : List ℕ). length put ≡ size) put_elements bytes (bytes_at size bytes) some_put (bytes_reads size bytes)) before after took
+
+pub asks_none : (e : Stopped) (front : List ℕ → List ℕ) (before after : Option (List ℕ)) → Took (Err e) front before after → AsksOf (Err e) before after
+asks_none e front None after took = tt
+asks_none (Refused rule passed) front (Some bytes) after took = absurd took
+asks_none Failed front (Some bytes) after took = untaken {X = Request} Failed front request_at request_past (Some bytes) after took
+asks_none OutOfMemory front (Some bytes) after took = tt
+
 -- what comes next
+pub next_broken : (before after : Option (List ℕ)) → AsksOf (Err Failed) before after → IsNext nexts.Failed before after
+next_broken None after h = tt
+next_broken (Some bytes) after h = mapped_some after (λ left off. broken_off bytes left off) h
+
 pub next_asks : (r : Request) (before after : Option (List ℕ)) → AsksOf (Ok (Some r)) before after → IsNext (nexts.Asks r) before after
 next_asks r None after h = tt
 next_asks r (Some bytes) after h = mapped_some after (λ rest e. asked bytes rest r e) h
@@ -202,7 +232,9 @@ next_refused result rule passed None between after h k = tt
 next_refused (nexts.Asks r) rule passed (Some bytes) between after h k = absurd k
 next_refused nexts.Over rule passed (Some bytes) between after h k = absurd k
 next_refused nexts.OutOfMemory rule passed (Some bytes) between after h k = absurd k
-next_refused nexts.Failed rule passed (Some bytes) between after h k = tt
+next_refused nexts.Failed rule passed (Some bytes) None after h k = absurd h.1.2
+next_refused nexts.Failed rule passed (Some bytes) (Some rest) after h k =
+    subst (λ (o : Option (List ℕ)). IsSomeAnd o (IsBrokenOff bytes)) (sym k.1) (refused_off bytes rest rule h.1.0 h.0 h.1.1 (subst (λ (p : Bool). StopsAt bytes rule p h.1.0 rest) k.0 h.1.2))
 next_refused (nexts.Refused refused) rule passed (Some bytes) None after h k = absurd h.1.2
 next_refused (nexts.Refused refused) rule passed (Some bytes) (Some rest) after h k =
     subst (λ (o : Option (List ℕ)). IsSomeAnd o (IsAtFront (nexts.Refused refused) bytes)) (sym k.1)

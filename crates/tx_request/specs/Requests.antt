@@ -107,12 +107,20 @@ pub data AreRead : List ℕ → List Next → List ℕ → Type 0 where
 abbrev pub IsOnlyReading : List ℕ → Type 0
 IsOnlyReading bytes = (one other : Next) (rest later : List ℕ) → IsAtFront one bytes rest → IsAtFront other bytes later → (one ≡ other) × (rest ≡ later)
 
--- what an inlet answers of what it tells, and leaves; nothing is said where it failed or memory was wanting
+-- The inlet failed in the midst of what comes next: some of these bytes were taken in, and these are left. Nothing was taken in whole,
+-- that is, so that it stands at the front whatever follows, and nothing behind what stands there.
+pub record IsBrokenOff (bytes left : List ℕ) : Type 0 where
+  pub taken : List ℕ
+  pub are : bytes ≡ taken ++ left
+  pub unended : (next : Next) (later : List ℕ) → ((more : List ℕ) → IsAtFront next (taken ++ more) (later ++ more)) → ⊥
+  pub no_more : (next : Next) (rest : List ℕ) → IsAtFront next bytes rest → length rest ≤ length left
+
+-- what an inlet answers of what it tells, and leaves; nothing is said where memory was wanting
 abbrev pub Leaves : Next → List ℕ → Option (List ℕ) → Type 0
 Leaves (Asks r) bytes after = IsSomeAnd after (IsAtFront (Asks r) bytes)
 Leaves (Refused rule) bytes after = IsSomeAnd after (IsAtFront (Refused rule) bytes)
 Leaves Over bytes after = IsSomeAnd after (IsAtFront Over bytes)
-Leaves Failed bytes after = Unit {0}
+Leaves Failed bytes after = IsSomeAnd after (IsBrokenOff bytes)
 Leaves OutOfMemory bytes after = Unit {0}
 
 abbrev pub IsNext : Next → Option (List ℕ) → Option (List ℕ) → Type 0

@@ -37,7 +37,7 @@ pub enum Next {
     Refused(Rule),
     /// Nothing more.
     Over,
-    /// What comes in couldn't be read. The inlet has counted a fault.
+    /// What comes in couldn't be read, and nothing was taken whole. The inlet has counted a fault.
     Failed,
     /// There was no memory left for it.
     OutOfMemory,

@@ -114,11 +114,15 @@ begun_by_command (primitive.Limits kind) = no_number
 begun_by_command (primitive.Style style) = no_number
 begun_by_command primitive.Choice = no_number
 begun_by_command (primitive.Fraction kind) = no_number
+begun_by_command (primitive.Delimited what) = no_number
+begun_by_command (primitive.Coded kind) = no_number
+begun_by_command primitive.Accent = no_number
 begun_by_command primitive.MathGlue = no_number
 begun_by_command primitive.Nonscript = no_number
 begun_by_command primitive.Insert = no_number
 begun_by_command primitive.Align = no_number
 begun_by_command (primitive.AlignWord word) = no_number
+begun_by_command (primitive.EquationNumber side) = no_number
 begun_by_command primitive.DeadCycles = begin.At place.DeadCycles
 begun_by_command (primitive.Page quantity) = begin.At (place.Page quantity)
 

@@ -2,7 +2,7 @@
 use Rattle.std.proofs.Common.{◌≡◌, ℕ, List, [], ◌∷◌, Some, IfSome, cond, true, false, refl, ◌⊎◌, inl, inr, eqb}
 use Rattle.std.proofs.lemmas.Bool.{eqb-true}
 use Rattle.tx_seen.specs.declared.error.TexError.{TexError}
-use Rattle.tx_seen.specs.declared.error.TexError.TheVariants.{InvalidCharacter, Undefined, MissingNumber, MissingUnit, NumberOutOfRange, DimensionTooLarge, IntegerTooLarge, SizeOutOfRange, ArithmeticOverflow, ErrorMessage, NoAssignment, ExtraGroupEnd, UseDiffers, ParagraphInArgument, GroupEndInArgument, ExtraConditionalWord, IncompleteConditional, IncompleteText, MissingBeginGroup, MissingName, FileAbsent, BadFont, BadParameter, BadName, NotAllowed, TooDeep, TooManyGroups, OccupiedPageBox, UnbalancedOutput, TooManyDeadCycles, InfiniteShrink, BadFormula, MisplacedAlignment, BadHyphenation, MissingBox, BadMagnification, NoEnd}
+use Rattle.tx_seen.specs.declared.error.TexError.TheVariants.{InvalidCharacter, Undefined, MissingNumber, MissingUnit, NumberOutOfRange, DimensionTooLarge, IntegerTooLarge, SizeOutOfRange, ArithmeticOverflow, ErrorMessage, NoAssignment, ExtraGroupEnd, UseDiffers, ParagraphInArgument, GroupEndInArgument, ExtraConditionalWord, IncompleteConditional, IncompleteText, MissingBeginGroup, MissingName, FileAbsent, BadFont, BadParameter, BadName, NotAllowed, TooDeep, TooManyGroups, OccupiedPageBox, UnbalancedOutput, TooManyDeadCycles, InfiniteShrink, BadFormula, MisplacedAlignment, BadHyphenation, MissingBox, BadMagnification, NoEnd, MissingDelimiter}
 use Rattle.tx_seen.specs.Errors.{all, number_of, numbered}
 
 pub found : (e : TexError) → (numbered all (number_of e) ≡ Some e) ⊎ (e ≡ ArithmeticOverflow)
@@ -44,6 +44,7 @@ found BadHyphenation = inl refl
 found MissingBox = inl refl
 found BadMagnification = inl refl
 found NoEnd = inl refl
+found MissingDelimiter = inl refl
 
 -- what is found has the number
 pub has-number : (errors : List TexError) (number : ℕ) → IfSome (numbered errors number) (λ e. number_of e ≡ number)

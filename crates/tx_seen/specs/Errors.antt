@@ -1,7 +1,7 @@
 -- The numbers of the errors, as a run prints them.
 use Rattle.std.specs.Prelude.{ℕ, List, [], ◌∷◌, Option, None, Some, ◌==◌, if◌then◌else◌}
 use Rattle.tx_seen.specs.declared.error.TexError.{TexError}
-use Rattle.tx_seen.specs.declared.error.TexError.TheVariants.{InvalidCharacter, Undefined, MissingNumber, MissingUnit, NumberOutOfRange, DimensionTooLarge, IntegerTooLarge, SizeOutOfRange, ArithmeticOverflow, ErrorMessage, NoAssignment, ExtraGroupEnd, UseDiffers, ParagraphInArgument, GroupEndInArgument, ExtraConditionalWord, IncompleteConditional, IncompleteText, MissingBeginGroup, MissingName, FileAbsent, BadFont, BadParameter, BadName, NotAllowed, TooDeep, TooManyGroups, OccupiedPageBox, UnbalancedOutput, TooManyDeadCycles, InfiniteShrink, BadFormula, MisplacedAlignment, BadHyphenation, MissingBox, BadMagnification, NoEnd}
+use Rattle.tx_seen.specs.declared.error.TexError.TheVariants.{InvalidCharacter, Undefined, MissingNumber, MissingUnit, NumberOutOfRange, DimensionTooLarge, IntegerTooLarge, SizeOutOfRange, ArithmeticOverflow, ErrorMessage, NoAssignment, ExtraGroupEnd, UseDiffers, ParagraphInArgument, GroupEndInArgument, ExtraConditionalWord, IncompleteConditional, IncompleteText, MissingBeginGroup, MissingName, FileAbsent, BadFont, BadParameter, BadName, NotAllowed, TooDeep, TooManyGroups, OccupiedPageBox, UnbalancedOutput, TooManyDeadCycles, InfiniteShrink, BadFormula, MisplacedAlignment, BadHyphenation, MissingBox, BadMagnification, NoEnd, MissingDelimiter}
 
 abbrev pub number_of : TexError → ℕ
 number_of InvalidCharacter = 1
@@ -41,10 +41,11 @@ number_of BadHyphenation = 33
 number_of MissingBox = 34
 number_of BadMagnification = 35
 number_of NoEnd = 36
+number_of MissingDelimiter = 39
 
 -- all errors, in the order of their numbers
 unfoldable pub all : List TexError
-all = InvalidCharacter ∷ Undefined ∷ MissingNumber ∷ MissingUnit ∷ NumberOutOfRange ∷ DimensionTooLarge ∷ IntegerTooLarge ∷ SizeOutOfRange ∷ ArithmeticOverflow ∷ ErrorMessage ∷ NoAssignment ∷ ExtraGroupEnd ∷ UseDiffers ∷ ParagraphInArgument ∷ GroupEndInArgument ∷ ExtraConditionalWord ∷ IncompleteConditional ∷ IncompleteText ∷ MissingBeginGroup ∷ MissingName ∷ FileAbsent ∷ BadFont ∷ BadParameter ∷ BadName ∷ NotAllowed ∷ TooDeep ∷ TooManyGroups ∷ OccupiedPageBox ∷ UnbalancedOutput ∷ TooManyDeadCycles ∷ InfiniteShrink ∷ BadFormula ∷ MisplacedAlignment ∷ BadHyphenation ∷ MissingBox ∷ BadMagnification ∷ NoEnd ∷ []
+all = InvalidCharacter ∷ Undefined ∷ MissingNumber ∷ MissingUnit ∷ NumberOutOfRange ∷ DimensionTooLarge ∷ IntegerTooLarge ∷ SizeOutOfRange ∷ ArithmeticOverflow ∷ ErrorMessage ∷ NoAssignment ∷ ExtraGroupEnd ∷ UseDiffers ∷ ParagraphInArgument ∷ GroupEndInArgument ∷ ExtraConditionalWord ∷ IncompleteConditional ∷ IncompleteText ∷ MissingBeginGroup ∷ MissingName ∷ FileAbsent ∷ BadFont ∷ BadParameter ∷ BadName ∷ NotAllowed ∷ TooDeep ∷ TooManyGroups ∷ OccupiedPageBox ∷ UnbalancedOutput ∷ TooManyDeadCycles ∷ InfiniteShrink ∷ BadFormula ∷ MisplacedAlignment ∷ BadHyphenation ∷ MissingBox ∷ BadMagnification ∷ NoEnd ∷ MissingDelimiter ∷ []
 
 -- the first error of a list that has a number
 abbrev pub numbered : List TexError → ℕ → Option TexError

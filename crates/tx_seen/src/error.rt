@@ -103,10 +103,13 @@ pub enum TexError {
     /// The main file has ended and no \end was carried out.
     #[error("the document ended without \\end")]
     NoEnd,
+    /// A delimiter is needed and isn't there.
+    #[error("a delimiter is missing")]
+    MissingDelimiter,
 }
 
 /// All errors, in the order of their numbers.
-const ALL: [TexError; 37] = [
+const ALL: [TexError; 38] = [
     TexError::InvalidCharacter,
     TexError::Undefined,
     TexError::MissingNumber,
@@ -144,6 +147,7 @@ const ALL: [TexError; 37] = [
     TexError::MissingBox,
     TexError::BadMagnification,
     TexError::NoEnd,
+    TexError::MissingDelimiter,
 ];
 
 impl TexError {
@@ -189,6 +193,7 @@ impl TexError {
             TexError::MissingBox => 34,
             TexError::BadMagnification => 35,
             TexError::NoEnd => 36,
+            TexError::MissingDelimiter => 39,
         }
     }
     /// All errors, each once.

@@ -160,6 +160,7 @@ register-alone (registering.Copy context) n back = refl
 register-alone (registering.Unbox kind) n back = refl
 register-alone registering.Set n back = refl
 register-alone registering.Character n back = refl
+register-alone registering.Accent n back = refl
 register-alone registering.Insert n back = class-alone (n == 255) n back
 register-alone (registering.Split context) n back = refl
 register-alone (registering.Family size) n back = family-alone (nat_le n 15) size n back

@@ -11,7 +11,7 @@ use Rattle.tx_shape.specs.declared.types.BoxContext.TheVariants.{Append}
 use Rattle.tx_shape.specs.declared.types.BoxGoal.TheVariants.{To, Spread}
 use Rattle.tx_shape.specs.declared.types.BoxRead.TheVariants as box
 use Rattle.tx_shape.specs.declared.types.Shaped.{Shaped}
-use Rattle.tx_shape.specs.declared.types.Shaped.TheVariants.{Box, Unbox, Penalize, Character}
+use Rattle.tx_shape.specs.declared.types.Shaped.TheVariants.{Box, Unbox, Penalize, Character, Accent}
 use Rattle.tx_shape.specs.declared.scans.Next.{Next}
 use Rattle.tx_shape.specs.declared.scans.Next.TheVariants.{Part, Font, Whole, Wrong}
 use Rattle.tx_shape.specs.declared.scans.Plain.{Plain}
@@ -61,6 +61,7 @@ behind_register (registering.Copy context) n = Whole (Box (box.Copy n) context)
 behind_register (registering.Unbox kind) n = Whole (Unbox kind n)
 behind_register registering.Set n = Part (plain.Equals n)
 behind_register registering.Character n = Whole (Character n)
+behind_register registering.Accent n = Whole (Accent n)
 behind_register registering.Insert n = behind_class n
 behind_register (registering.Split context) n = Part (plain.To n context)
 behind_register (registering.Family size) n = behind_family size n

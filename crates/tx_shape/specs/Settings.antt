@@ -28,7 +28,7 @@ use Rattle.tx_shape.specs.declared.scans.SizeSetting.{SizeSetting}
 use Rattle.tx_shape.specs.declared.scans.SizeSetting.TheVariants as size
 use Rattle.tx_shape.specs.declared.scans.Sizing.TheVariants.{Set}
 use Rattle.tx_shape.specs.declared.types.Shaped.{Shaped}
-use Rattle.tx_shape.specs.declared.types.Shaped.TheVariants.{SetDepth, SetFactor, SetPrevGraf, BeginShape, SetDeadCycles, SetPage, SetFontDimen, SetFontInteger, SetFamily, MathCharacter}
+use Rattle.tx_shape.specs.declared.types.Shaped.TheVariants.{SetDepth, SetFactor, SetPrevGraf, BeginShape, SetDeadCycles, SetPage, SetFontDimen, SetFontInteger, SetFamily, MathCharacter, Coded}
 
 -- the number or the size that is set
 abbrev pub amount_of : Setting → Amount
@@ -47,6 +47,7 @@ set_number number.PrevGraf n = SetPrevGraf n
 set_number number.ParShape n = BeginShape n
 set_number number.DeadCycles n = SetDeadCycles n
 set_number number.MathCharacter n = MathCharacter n
+set_number (number.Coded kind) n = Coded kind n
 set_number (number.Page quantity) n = SetPage quantity n
 set_number (number.FontInteger kind font) n = SetFontInteger kind font n
 

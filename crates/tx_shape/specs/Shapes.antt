@@ -13,7 +13,7 @@ use Rattle.tx_shape.specs.declared.types.BoxContext.TheVariants.{Adjust, Append,
 use Rattle.tx_shape.specs.declared.types.Opener.TheVariants.{Insert}
 use Rattle.tx_shape.specs.declared.types.BoxGoal.TheVariants.{Natural}
 use Rattle.tx_shape.specs.declared.types.Shaped.{Shaped}
-use Rattle.tx_shape.specs.declared.types.Shaped.TheVariants.{Character}
+use Rattle.tx_shape.specs.declared.types.Shaped.TheVariants.{Accent, Character}
 use Rattle.tx_shape.specs.declared.types.Shaping.{Shaping}
 use Rattle.tx_shape.specs.declared.types.Shaping.TheVariants as shaping
 use Rattle.tx_shape.specs.Boxes.{box_begin, box_from, by_register, group_begun, math_skipping, needed_box, opened, penalizing, setting as box_setting, shifting, skipping, unboxing}
@@ -22,6 +22,10 @@ use Rattle.tx_shape.specs.Settings.{dimen_setting, family_at, font_setting, page
 -- \char: the code of a character (section 1124)
 abbrev pub character : List Item → Reading Shaped
 character items = by_register (λ n rest. Done (Character n) rest) items
+
+-- \accent: the same (section 1123)
+abbrev pub accent : List Item → Reading Shaped
+accent items = by_register (λ n rest. Done (Accent n) rest) items
 
 -- \vadjust: the begin-group token of a vertical list (section 1099)
 abbrev pub adjusting : List Item → Reading Shaped
@@ -55,6 +59,8 @@ shape shaping.PrevGraf items = setting (Number number.PrevGraf) items
 shape shaping.ParShape items = setting (Number number.ParShape) items
 shape shaping.Adjust items = adjusting items
 shape shaping.MathCharacter items = set (Number number.MathCharacter) items
+shape (shaping.Coded kind) items = set (Number (number.Coded kind)) items
+shape shaping.Accent items = accent items
 shape shaping.Center items = box_begin (opening.Box Vertical Center) items
 shape shaping.MathGlue items = math_skipping items
 shape shaping.Insert items = inserting items

@@ -24,7 +24,7 @@ impl ShapeScan {
     }
 
     /// The box that is needed, or what is skipped before it.
-    pub(crate) fn feed_needed(&mut self, context: BoxContext, token: &Seen) -> Fed<Shaped>
+    pub fn feed_needed(&mut self, context: BoxContext, token: &Seen) -> Fed<Shaped>
         ensures { Begins (λ more. boxes.needed_box context (Took token.now ∷ more)) self.new result }
     {
         if token.is_undefined() {

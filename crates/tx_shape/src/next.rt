@@ -43,6 +43,7 @@ fn behind_register(registering: Registering, register: u8) -> Next
         Registering::Unbox(kind) => Next::Whole(Shaped::Unbox(kind, register)),
         Registering::Set => Next::Part(Plain::Equals(register)),
         Registering::Character => Next::Whole(Shaped::Character(register)),
+        Registering::Accent => Next::Whole(Shaped::Accent(register)),
         Registering::Insert => behind_class(register),
         Registering::Split(context) => Next::Part(Plain::To(register, context)),
         Registering::Family(size) => behind_family(size, register),
@@ -121,6 +122,7 @@ fn behind_set(setting: NumberSetting, number: i32) -> Next
         NumberSetting::ParShape => Next::Whole(Shaped::BeginShape(number)),
         NumberSetting::DeadCycles => Next::Whole(Shaped::SetDeadCycles(number)),
         NumberSetting::MathCharacter => Next::Whole(Shaped::MathCharacter(number)),
+        NumberSetting::Coded(kind) => Next::Whole(Shaped::Coded(kind, number)),
         NumberSetting::Page(quantity) => Next::Whole(Shaped::SetPage(quantity, number)),
         NumberSetting::FontInteger(kind, font) => {
             Next::Whole(Shaped::SetFontInteger(kind, font, number))

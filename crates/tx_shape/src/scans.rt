@@ -2,7 +2,7 @@
 
 use crate::letters::Letters;
 use crate::types::{BoxContext, BoxGoal, Opener, Shaped};
-use tx_prim::{BoxKind, FontNumber, MathSize, PageQuantity, ShiftKind, UnboxKind};
+use tx_prim::{BoxKind, CodedKind, FontNumber, MathSize, PageQuantity, ShiftKind, UnboxKind};
 use tx_scan::{DimenScan, FontSought, GlueScan, IntScan};
 use tx_seen::{FontName, TexError};
 
@@ -27,6 +27,8 @@ pub enum Registering {
     Set,
     /// \char: the code of a character, and no register.
     Character,
+    /// \accent: the same.
+    Accent,
     /// \insert: a class, and no register; there is none of 255.
     Insert,
     /// \vsplit.
@@ -59,6 +61,8 @@ pub enum NumberSetting {
     DeadCycles,
     /// \mathchar, which has no `=`.
     MathCharacter,
+    /// \delimiter and its kin, which have none.
+    Coded(CodedKind),
     /// A number of the page.
     Page(PageQuantity),
     /// \hyphenchar or \skewchar of a font.

@@ -67,6 +67,8 @@ impl ShapeScan {
                 self.on(Stage::Plain(Plain::Brace(opening, BoxGoal::Natural)))
             }
             Shaping::MathCharacter => self.to_amount(Amount::Number(NumberSetting::MathCharacter)),
+            Shaping::Coded(kind) => self.to_amount(Amount::Number(NumberSetting::Coded(kind))),
+            Shaping::Accent => self.to_amount(Amount::Register(Registering::Accent)),
             Shaping::Center => {
                 let opening = Opening::Box(BoxKind::Vertical, BoxContext::Center);
                 self.on(Stage::Plain(Plain::Goal(opening)))

@@ -2,8 +2,8 @@
 use tx_bytes::Bytes;
 use tx_num::Glue;
 use tx_prim::{
-    BoxKind, BoxSource, BreakText, FontNumber, GlueForm, MathSize, MathStyle, PageQuantity,
-    ShiftKind, UnboxKind,
+    BoxKind, BoxSource, BreakText, CodedKind, FontNumber, GlueForm, LeadersKind, MathSize,
+    MathStyle, PageQuantity, ShiftKind, UnboxKind,
 };
 use tx_seen::{FontName, Place};
 
@@ -21,6 +21,8 @@ pub enum BoxContext {
     Adjust,
     /// It is the nucleus of an atom, centred as \vcenter does it.
     Center,
+    /// Leaders repeat it, whose glue is to follow.
+    Lead(LeadersKind),
 }
 
 /// What the list of a box is packed to: its natural size, so many sp, or so many more than that (The TeXbook, chapter 12).
@@ -93,6 +95,10 @@ pub enum Shaping {
     Adjust,
     /// \mathchar.
     MathCharacter,
+    /// \delimiter and its kin.
+    Coded(CodedKind),
+    /// \accent.
+    Accent,
     /// \vcenter.
     Center,
     /// \mskip.
@@ -132,6 +138,10 @@ pub enum Shaped {
     Character(u8),
     /// A character of a formula, by its number.
     MathCharacter(i32),
+    /// The number behind \delimiter or its kin.
+    Coded(CodedKind, i32),
+    /// The character of an accent.
+    Accent(u8),
     /// Glue in mu.
     MathSkip(Glue),
     /// \spacefactor is to be this number.

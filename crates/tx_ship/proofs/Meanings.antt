@@ -8,20 +8,21 @@ use Rattle.std.proofs.lemmas.Int.{ints}
 use Rattle.std.proofs.lemmas.List.{append-nil, length-append}
 use Rattle.std.specs.Int.{is_positive}
 use Rattle.tx_node.specs.declared.head.Direction.{Direction}
+use Rattle.tx_node.specs.declared.places.Copies.{Copies}
 use Rattle.tx_node.specs.declared.head.Direction.TheVariants.{Horizontal, Vertical}
 use Rattle.tx_node.specs.declared.character.Character.{Character as CharacterItem}
 use Rattle.tx_node.specs.declared.plain.Plain.{Plain}
 use Rattle.tx_node.specs.declared.plain.Plain.TheVariants.{Kern, Glue, Penalty, Character}
 use Rattle.tx_node.specs.declared.plain.Shared.{Shared}
 use Rattle.tx_node.specs.declared.plain.Shared.TheVariants.{Rule, Leaders, Special, Ligature, Mark}
-use Rattle.tx_node.specs.Items.{Item, plain, shared, boxed, discretionary, adjustment, insertion, Items, none, more, PackedBox, items_of}
+use Rattle.tx_node.specs.Items.{Item, plain, shared, boxed, discretionary, adjustment, insertion, box_leaders, Items, none, more, PackedBox, items_of}
 use Rattle.tx_node.specs.Setting.{Reach, begun}
 use Rattle.tx_dvi.specs.declared.font.FontDefinition.{FontDefinition}
 use Rattle.tx_dvi.specs.Dvi.{four_bytes, definition_bytes, IsDefinable}
 use Rattle.tx_dvi.specs.declared.placed.Placed.{Placed}
 use Rattle.tx_dvi.specs.declared.placed.Placed.TheVariants.{Ruled}
 use Rattle.tx_dvi.specs.declared.placed.Registers.{Registers}
-use Rattle.tx_dvi.specs.Meaning.{Widths, ReaderFonts, Reader, right_by, character_met, rule_met, special_met, is_known, choosing, defining, all_met, page_start, meaning}
+use Rattle.tx_dvi.specs.Meaning.{Widths, ReaderFonts, Reader, right_by, down_by, character_met, rule_met, special_met, is_known, choosing, defining, all_met, page_start, meaning}
 use Rattle.tx_dvi.proofs.Reading.{run, reader, run-append, run-push, run-pop, run-xxx1, run-xxx4, run-set_char, run-set1, run-fnt_num, run-fnt1, run-fnt_def1}
 use Rattle.tx_tfm.specs.declared.named.NamedFont.{NamedFont}
 use Rattle.tx_tfm.specs.declared.state.FontState.{FontState}
@@ -35,10 +36,10 @@ use Rattle.tx_ship.specs.declared.places.Sides.{Sides}
 use Rattle.tx_ship.specs.declared.places.Cursor.{Cursor}
 use Rattle.tx_ship.specs.declared.places.CornerRule.{CornerRule}
 use Rattle.tx_ship.specs.Characters.{dvi_number, widths_of, definition_for, IsOfFont, IsPlainOfFonts, IsSharedOfFonts, AreOfFonts, IsItemOfFonts, definition_commands, choice, is_chosen, font_commands, set_code}
-use Rattle.tx_ship.specs.Standing.{next, span_of, size_of, reference, upright, shifted, rule_sides, leaders_sides, frame_at, page_frame}
-use Rattle.tx_ship.specs.Commands.{Pen, pen_at, is_entered, is_visible, cornered, page_pen, written_of, right, down, way, rule_bytes, rule_item, rule_commands, keeping_fonts, character_item, character_commands, behind_character, plain_commands, shared_commands, behind_rule, special, special_item, cursor_at, framed, approach, approached, entering, list_commands, item_commands}
-use Rattle.tx_ship.specs.Within.{Lies, IsReader, head_lies, rule_lies, character_lies, plain_lies, shared_lies, list_lies, item_lies, page_lies}
-use Rattle.tx_ship.specs.Placing.{placed, placed_in, placed_character, placed_plain, placed_shared, placed_list, placed_item}
+use Rattle.tx_ship.specs.Standing.{next, span_of, size_of, reference, upright, shifted, rule_sides, leaders_sides, copies_from, first_copy, copy_at, frame_at, page_frame}
+use Rattle.tx_ship.specs.Commands.{Pen, pen_at, is_entered, is_visible, cornered, page_pen, written_of, right, down, way, rule_bytes, rule_item, rule_commands, keeping_fonts, character_item, character_commands, behind_character, plain_commands, shared_commands, behind_rule, special, special_item, cursor_at, framed, approach, approached, entering, copy_way, copy_commands, copied, list_commands, item_commands}
+use Rattle.tx_ship.specs.Within.{Lies, IsReader, head_lies, rule_lies, character_lies, plain_lies, shared_lies, copies_lie, list_lies, item_lies, page_lies}
+use Rattle.tx_ship.specs.Placing.{placed, placed_in, placed_character, placed_plain, placed_shared, placed_copies, placed_list, placed_item}
 use Rattle.tx_ship.proofs.Steps.{both, lies-is, point-is}
 use Rattle.tx_ship.proofs.Moves.{run-right, run-down, run-set, run-put}
 
@@ -175,6 +176,20 @@ module _ (widths : Widths) (now : Registers) (known : ReaderFonts) (stack : List
       let along : unsigned_abs (to.down -ℤ c.down) < 2 ^ 31 = omega (arith, ints, aims.down, reads.down) in
       let v_is : c.down +ℤ (to.down -ℤ c.down) ≡ to.down = omega (arith, ints) in
       run-down widths (at_cursor now c) known stack met (to.down -ℤ c.down) along ∙ (λ i. Some (reader (record now { h = c.right; v = v_is i }) known stack met))
+
+  -- to a copy of a box in leaders
+  copy-way-takes : (direction : Direction) (c to : Cursor) → IsReader c → IsReader to → run widths (here now c known stack met) (copy_way direction c to) ≡ here now to known stack met
+  unfolding copy_way
+  copy-way-takes Horizontal c to reads aims =
+      let across : unsigned_abs (to.right -ℤ c.right) < 2 ^ 31 = omega (arith, ints, aims.right, reads.right) in
+      let along : unsigned_abs (to.down -ℤ c.down) < 2 ^ 31 = omega (arith, ints, aims.down, reads.down) in
+      let h_is : c.right +ℤ (to.right -ℤ c.right) ≡ to.right = omega (arith, ints) in
+      let v_is : c.down +ℤ (to.down -ℤ c.down) ≡ to.down = omega (arith, ints) in
+      run-append widths (here now c known stack met) (down (to.down -ℤ c.down)) (right (to.right -ℤ c.right))
+      ∙ ap (λ o. run widths o (right (to.right -ℤ c.right))) (run-down widths (at_cursor now c) known stack met (to.down -ℤ c.down) along)
+      ∙ run-right widths (down_by (to.down -ℤ c.down) (at_cursor now c)) known stack met (to.right -ℤ c.right) across
+      ∙ (λ i. Some (reader (record now { h = h_is i; v = v_is i }) known stack met))
+  copy-way-takes Vertical c to reads aims = way-takes c to reads aims
 
   approached-reads : (direction : Direction) (c to : Cursor) → IsReader c → IsReader to → IsReader (approached direction c to)
   approached-reads Horizontal c to reads aims = reads
@@ -322,6 +337,51 @@ box-means widths now stack met direction pen to inside new reads aims takes =
       reads = approached-reads widths now pen.fonts stack met direction pen.at to reads aims;
     }
 
+-- copies that hold nothing
+none-held : (held : Point → List Placed) (stands : ℤ → Point) (step left : ℕ) (from : ℤ) → ((at : Point) → held at ≡ []) → placed_copies held stands step left from ≡ []
+unfolding placed_copies
+none-held held stands step zero from none_is = refl
+none-held held stands step (suc left) from none_is =
+    ap (λ (first : List Placed). first ++ placed_copies held stands step left (from +ℤ pos step)) (none_is (stands from)) ∙ none-held held stands step left (from +ℤ pos step) none_is
+
+-- a copy of a box, by the commands of its list
+copy-means : (widths : Widths) (now : Registers) (stack : List Registers) (met : List Placed) (direction : Direction) (pen : Pen) (to : Cursor) (inside : List ℕ × Pen) (new : List Placed) → IsReader pen.at → IsReader to
+    → Takes widths (at_cursor now to) (at_cursor now to ∷ stack) met (pen_at pen.fonts to) inside.1 inside.0 new
+    → ItemMeans widths now stack met pen (copy_commands direction pen to inside) new
+copy-means widths now stack met direction pen to inside new reads aims takes = record {
+  takes = run-append widths (here now pen.at pen.fonts stack met) (copy_way direction pen.at to) (framed inside.0)
+      ∙ ap (λ o. run widths o (framed inside.0)) (copy-way-takes widths now pen.fonts stack met direction pen.at to reads aims)
+      ∙ framed-takes widths (at_cursor now to) (at_cursor now inside.1.at) pen.fonts inside.1.fonts stack met new inside.0 takes;
+  reads = aims;
+}
+
+-- all copies, by what the list of one of them means with its reference point there
+module _ (widths : Widths) (direction : Direction) (put : Point → Pen → List ℕ × Pen) (lies : Point → Bool) (held : Point → List Placed) (stands : ℤ → Point) (step : ℕ)
+    (on_page : (at : Point) → lies at ≡ true → IsReader (cursor_at at))
+    (each : (at : Point) (pen : Pen) (now : Registers) (stack : List Registers) (met : List Placed) → lies at ≡ true → IsReader pen.at → IsShort (put at pen).0
+    → Takes widths now stack met pen (put at pen).1 (put at pen).0 (held at)) where
+  copies-mean : (left : ℕ) (from : ℤ) (pen : Pen) (now : Registers) (stack : List Registers) (met : List Placed)
+      → copies_lie lies stands step left from ≡ true → IsReader pen.at → IsShort (copied direction put stands step left from pen).0
+      → ItemMeans widths now stack met pen (copied direction put stands step left from pen) (placed_copies held stands step left from)
+  unfolding copied copies_lie placed_copies
+  copies-mean zero from pen now stack met lie reads short = record { takes = still widths now pen.fonts stack met pen.at; reads = reads }
+  copies-mean (suc left) from pen now stack met lie reads short =
+      let at : Point = stands from in
+      let aims : IsReader (cursor_at at) = on_page at (both lie).0 in
+      let inside : List ℕ × Pen = put at (pen_at pen.fonts (cursor_at at)) in
+      let made : List ℕ × Pen = copy_commands direction pen (cursor_at at) inside in
+      let parts = short-parts made.0 (copied direction put stands step left (from +ℤ pos step) made.1).0 short in
+      let first : ItemMeans widths now stack met pen made (held at)
+      = copy-means widths now stack met direction pen (cursor_at at) inside (held at) reads aims
+      (each at (pen_at pen.fonts (cursor_at at)) (at_cursor now (cursor_at at)) (at_cursor now (cursor_at at) ∷ stack) met (both lie).0 aims (inside-short (copy_way direction pen.at (cursor_at at)) inside.0 parts.0)) in
+      let rest : ItemMeans widths now stack (met ++ held at) made.1 (copied direction put stands step left (from +ℤ pos step) made.1) (placed_copies held stands step left (from +ℤ pos step))
+      = copies-mean left (from +ℤ pos step) made.1 now stack (met ++ held at) (both lie).1 first.reads parts.1 in
+      record {
+        takes = joined widths now stack met pen made.1 (copied direction put stands step left (from +ℤ pos step) made.1).1 made.0 (copied direction put stands step left (from +ℤ pos step) made.1).0
+            (held at) (placed_copies held stands step left (from +ℤ pos step)) first.takes rest.takes;
+        reads = rest.reads;
+      }
+
 -- what the fonts of a run give the characters of lists
 module _ (fonts : List FontState) (are : AreFonts fonts) where
   abbrev wide : Widths
@@ -413,6 +473,21 @@ module _ (fonts : List FontState) (are : AreFonts fonts) where
     item-means frame span pen (discretionary replaced pre post) now stack met of_fonts lies reads short = record { takes = still wide now pen.fonts stack met pen.at; reads = reads }
     item-means frame span pen (adjustment inner) now stack met of_fonts lies reads short = record { takes = still wide now pen.fonts stack met pen.at; reads = reads }
     item-means frame span pen (insertion inserted inner) now stack met of_fonts lies reads short = record { takes = still wide now pen.fonts stack met pen.at; reads = reads }
+    item-means frame span pen (box_leaders head repeated none) now stack met of_fonts lies reads short =
+        let copies : Copies = copies_from frame span head.kind repeated in
+        let nothing : placed_item frame span (box_leaders head repeated none) ≡ []
+        = none-held (λ at. placed_list (frame_at repeated at) begun none) (copy_at frame repeated) copies.step copies.count (first_copy span copies) (λ at. refl) in
+        record {
+          takes = still wide now pen.fonts stack met pen.at ∙ ap (λ new. here now pen.at pen.fonts stack (met ++ new)) (sym nothing);
+          reads = reads;
+        }
+    item-means frame span pen (box_leaders head repeated (more item rest)) now stack met of_fonts lies reads short =
+        let copies : Copies = copies_from frame span head.kind repeated in
+        copies-mean wide frame.head.direction (λ at own. list_commands fonts (frame_at repeated at) begun own (more item rest))
+        (λ at. head_lies at repeated && list_lies (frame_at repeated at) begun (more item rest)) (λ at. placed_list (frame_at repeated at) begun (more item rest)) (copy_at frame repeated) copies.step
+        (λ at lie. point-is (both (both lie).0).1)
+        (λ at own now_there stack_there met_there lie reads_there short_there. list-means (frame_at repeated at) begun own (more item rest) now_there stack_there met_there of_fonts (both lie).1 reads_there short_there)
+        copies.count (first_copy span copies) pen now stack met lies reads short
     item-means frame span pen (boxed shift head none) now stack met of_fonts lies reads short = record { takes = still wide now pen.fonts stack met pen.at; reads = reads }
     item-means frame span pen (boxed shift head (more item rest)) now stack met of_fonts lies reads short =
         let direction : Direction = frame.head.direction in

@@ -1,5 +1,5 @@
 -- The commands of a box before their movements are written by registers are whole plain commands.
-use Rattle.std.proofs.Common.{◌≡◌, ◌==◌, ℕ, ◌+◌, ◌<◌, ◌≤◌, ◌^◌, ℤ, pos, ◌-ℤ◌, Bool, true, false, cond, min, nat_lt, ◌||◌, unsigned_abs, List, [], ◌∷◌, ◌++◌, length, drop, fold, Option, Some, None, refl, ap, ◌∙◌, arith}
+use Rattle.std.proofs.Common.{◌≡◌, ◌==◌, ℕ, zero, suc, ◌+◌, ◌<◌, ◌≤◌, ◌^◌, ℤ, pos, ◌+ℤ◌, ◌-ℤ◌, Bool, true, false, cond, min, nat_lt, ◌||◌, unsigned_abs, List, [], ◌∷◌, ◌++◌, length, drop, fold, Option, Some, None, refl, ap, ◌∙◌, arith}
 use Rattle.std.proofs.lemmas.Bool.{lt-ltb, ltb-true, or_left, or_right}
 use Rattle.std.proofs.lemmas.Int.{ints}
 use Rattle.std.proofs.lemmas.List.{length-append}
@@ -7,11 +7,12 @@ use Rattle.std.specs.Int.{is_positive}
 use Rattle.tx_node.specs.declared.head.Direction.{Direction}
 use Rattle.tx_node.specs.declared.head.Direction.TheVariants.{Horizontal, Vertical}
 use Rattle.tx_node.specs.declared.character.Character.{Character as CharacterItem}
+use Rattle.tx_node.specs.declared.places.Copies.{Copies}
 use Rattle.tx_node.specs.declared.plain.Plain.{Plain}
 use Rattle.tx_node.specs.declared.plain.Plain.TheVariants.{Kern, Glue, Penalty, Character}
 use Rattle.tx_node.specs.declared.plain.Shared.{Shared}
 use Rattle.tx_node.specs.declared.plain.Shared.TheVariants.{Rule, Leaders, Special, Ligature, Mark}
-use Rattle.tx_node.specs.Items.{Item, plain, shared, boxed, discretionary, adjustment, insertion, Items, none, more, PackedBox, items_of}
+use Rattle.tx_node.specs.Items.{Item, plain, shared, boxed, discretionary, adjustment, insertion, box_leaders, Items, none, more, PackedBox, items_of}
 use Rattle.tx_node.specs.Setting.{Reach, begun}
 use Rattle.tx_dvi.specs.declared.font.FontDefinition.{FontDefinition}
 use Rattle.tx_dvi.specs.Dvi.{four_bytes, unsigned_bytes, definition_bytes}
@@ -27,8 +28,8 @@ use Rattle.tx_ship.specs.declared.places.Sides.{Sides}
 use Rattle.tx_ship.specs.declared.places.Cursor.{Cursor}
 use Rattle.tx_ship.specs.declared.places.CornerRule.{CornerRule}
 use Rattle.tx_ship.specs.Characters.{definition_for, definition_commands, choice, is_chosen, font_commands, set_code}
-use Rattle.tx_ship.specs.Standing.{next, span_of, size_of, reference, upright, shifted, rule_sides, leaders_sides, frame_at, page_frame}
-use Rattle.tx_ship.specs.Commands.{Pen, is_visible, cornered, page_pen, written_of, right, down, way, rule_bytes, rule_item, rule_commands, keeping_fonts, character_item, plain_commands, shared_commands, behind_rule, special, special_item, cursor_at, framed, approach, entering, list_commands, item_commands}
+use Rattle.tx_ship.specs.Standing.{next, span_of, size_of, reference, upright, shifted, rule_sides, leaders_sides, copies_from, first_copy, copy_at, frame_at, page_frame}
+use Rattle.tx_ship.specs.Commands.{Pen, pen_at, is_visible, cornered, page_pen, written_of, right, down, way, rule_bytes, rule_item, rule_commands, keeping_fonts, character_item, plain_commands, shared_commands, behind_rule, special, special_item, cursor_at, framed, approach, entering, list_commands, item_commands, copied, copy_commands, copy_way}
 use Rattle.tx_ship.specs.Registers.{is_right, is_down, registered, IsAsPlain}
 use Rattle.tx_ship.proofs.Meanings.{IsShort, short-parts, inside-short}
 use Rattle.tx_ship.proofs.Moves.{Sized, one, two, three, four, sized, moves, still}
@@ -217,6 +218,30 @@ plain-approach : (direction : Direction) (c to : Cursor) → Plainly (approach d
 plain-approach Horizontal c to = refl
 plain-approach Vertical c to = plain-down (to.down -ℤ c.down)
 
+-- the way to a copy that leaders make of a box
+plain-copy-way : (direction : Direction) (c to : Cursor) → Plainly (copy_way direction c to)
+unfolding copy_way
+plain-copy-way Horizontal c to =
+    plainly-append (down (to.down -ℤ c.down)) (right (to.right -ℤ c.right)) (plain-down (to.down -ℤ c.down)) (plain-right (to.right -ℤ c.right))
+plain-copy-way Vertical c to = plain-way c to
+
+-- all copies, where the commands of the list of one of them are whole plain ones
+module _ (direction : Direction) (put : Point → Pen → List ℕ × Pen) (stands : ℤ → Point) (step : ℕ)
+    (each : (at : Point) (pen : Pen) → IsShort (put at pen).0 → Plainly (put at pen).0) where
+  plain-copies : (left : ℕ) (from : ℤ) (pen : Pen) → IsShort (copied direction put stands step left from pen).0 → Plainly (copied direction put stands step left from pen).0
+  unfolding copied
+  plain-copies zero from pen short = refl
+  plain-copies (suc left) from pen short =
+      let to : Cursor = cursor_at (stands from) in
+      let inside : List ℕ × Pen = put (stands from) (pen_at pen.fonts to) in
+      let made : List ℕ × Pen = copy_commands direction pen to inside in
+      let others : List ℕ × Pen = copied direction put stands step left (from +ℤ pos step) made.1 in
+      let parts = short-parts made.0 others.0 short in
+      let first : Plainly made.0
+      = plainly-append (copy_way direction pen.at to) (framed inside.0) (plain-copy-way direction pen.at to)
+      (plain-framed inside.0 (each (stands from) (pen_at pen.fonts to) (inside-short (copy_way direction pen.at to) inside.0 parts.0))) in
+      plainly-append made.0 others.0 first (plain-copies left (from +ℤ pos step) made.1 parts.1)
+
 -- small items and larger ones
 plain-small : (fonts : List FontState) (frame : Frame) (span : Span) (pen : Pen) (p : Plain) → Plainly (plain_commands fonts frame span pen p).0
 plain-small fonts frame span pen (Kern kind size) = refl
@@ -256,6 +281,11 @@ mutual
   plain-item fonts frame span pen (discretionary replaced pre post) short = refl
   plain-item fonts frame span pen (adjustment inner) short = refl
   plain-item fonts frame span pen (insertion inserted inner) short = refl
+  plain-item fonts frame span pen (box_leaders head repeated none) short = refl
+  plain-item fonts frame span pen (box_leaders head repeated (more item rest)) short =
+      let copies : Copies = copies_from frame span head.kind repeated in
+      plain-copies frame.head.direction (λ at own. list_commands fonts (frame_at repeated at) begun own (more item rest)) (copy_at frame repeated) copies.step
+      (λ at own short_there. plain-list fonts (frame_at repeated at) begun own (more item rest) short_there) copies.count (first_copy span copies) pen short
   plain-item fonts frame span pen (boxed shift head none) short = refl
   plain-item fonts frame span pen (boxed shift head (more item rest)) short =
       let direction : Direction = frame.head.direction in

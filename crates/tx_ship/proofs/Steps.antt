@@ -1,7 +1,7 @@
 -- Steps of the walk over a list, and what a test of places tells.
-use Rattle.std.proofs.Common.{◌≡◌, ◌==◌, ℕ, ◌+◌, ◌-◌, ◌<◌, ◌≤◌, ◌^◌, ℤ, pos, unsigned_abs, ◌+ℤ◌, ◌-ℤ◌, Bool, true, false, cond, not, ◌&&◌, List, [], ◌∷◌, ◌++◌, length, take, drop, get_or, refl, sym, ap, ◌∙◌, subst, arith, add-one, append_assoc, Option, None, Result, Ok, Err}
+use Rattle.std.proofs.Common.{◌≡◌, ◌==◌, ℕ, ◌+◌, ◌-◌, ◌<◌, ◌≤◌, ℤ, pos, ◌+ℤ◌, ◌-ℤ◌, Bool, true, false, cond, not, ◌&&◌, List, [], ◌∷◌, ◌++◌, length, take, drop, get_or, refl, sym, ap, ◌∙◌, subst, arith, add-one, append_assoc, Option, None, Result, Ok, Err}
 use Rattle.std.specs.Prelude.{IsErrAnd}
-use Rattle.std.proofs.lemmas.Bool.{leb-true, ltb-true, eqb-true, eqb-false}
+use Rattle.std.proofs.lemmas.Bool.{leb-true, eqb-true, eqb-false}
 use Rattle.std.proofs.lemmas.List.{append-nil, length-append, drop_all}
 use Rattle.std.proofs.Math.Seq.{drop-cons, take-append_seam}
 use Rattle.std.proofs.Math.Dec.{eqb-suc-zero}
@@ -11,9 +11,8 @@ use Rattle.tx_node.specs.declared.head.BoxHead.{BoxHead}
 use Rattle.tx_node.specs.declared.head.Direction.{Direction}
 use Rattle.tx_node.specs.declared.head.Direction.TheVariants.{Horizontal, Vertical}
 use Rattle.tx_node.specs.Items.{Item, Items, none, more, PackedBox, box_item, items_of}
-use Rattle.tx_node.specs.Sizes.{advance}
 use Rattle.tx_node.specs.Nodes.{item_of, list_of}
-use Rattle.tx_node.specs.Setting.{Reach, sums_fit, share}
+use Rattle.tx_node.specs.Setting.{Reach}
 use Rattle.tx_ship.specs.declared.error.ShipError.{ShipError}
 use Rattle.tx_ship.specs.declared.places.Point.{Point}
 use Rattle.tx_ship.specs.declared.places.Frame.{Frame}
@@ -71,10 +70,6 @@ way-puts a from to first second = two-puts a (right (to.right -ℤ from.right)) 
 pub span-is : (frame : Frame) (reach : Reach) (item : Item) {from to : ℤ} → from ≡ place frame reach → to ≡ place frame (next frame reach item)
     → ◌≡◌ {A = Span} (record { from = from; to = to }) (span_of frame reach item)
 span-is frame reach item from_is to_is = λ i. record { from = from_is i; to = to_is i }
-
-pub next-is : (frame : Frame) (reach : Reach) (item : Item) {natural sum : ℤ} → natural ≡ reach.natural +ℤ advance frame.head.direction item → sum ≡ reach.sum +ℤ share frame.head.setting item
-    → ◌≡◌ {A = Reach} (record { natural = natural; sum = sum }) (next frame reach item)
-next-is frame reach item natural_is sum_is = λ i. record { natural = natural_is i; sum = sum_is i }
 
 pub across-is : (frame : Frame) (s : Stand) {direction : Direction} {h v : ℤ} → direction ≡ Horizontal → h ≡ s.from → v ≡ frame.at.v +ℤ s.shift
     → ◌≡◌ {A = Point} (record { h = h; v = v }) (reference direction frame s)
@@ -154,13 +149,6 @@ module _ (xs : List Node) (i : ℕ) {x : Node} (frame : Frame) (reach : Reach) (
   pub lies-not : {all : Bool} → list_lies frame reach (items_of (list_of (drop i xs))) ≡ all → item_lies frame (span_of frame reach (item_of x)) (item_of x) ≡ false → all ≡ false
   unfolding list_lies
   lies-not so_far lies = sym so_far ∙ ap (list_lies frame reach) (items-on xs i x here is) ∙ ap (λ b. b && list_lies frame (next frame reach (item_of x)) rest) lies
-
-  -- what is set of the list up to an item and behind it is a dimension
-  pub sums-on : {sum : ℤ} → sum ≡ reach.sum +ℤ share frame.head.setting (item_of x) → sums_fit frame.head.setting reach.sum (items_of (list_of (drop i xs))) ≡ true
-      → (unsigned_abs sum < 2 ^ 30) × (sums_fit frame.head.setting sum rest ≡ true)
-  sums-on sum_is fit =
-      let parts = both (ap (sums_fit frame.head.setting reach.sum) (sym (items-on xs i x here is)) ∙ fit) in
-      (subst (λ z. unsigned_abs z < 2 ^ 30) (sym sum_is) (ltb-true _ _ parts.0), ap (λ z. sums_fit frame.head.setting z rest) sum_is ∙ parts.1)
 
   -- the commands of the item, and those behind it
   pub put-on : (fonts : List FontState) (cursor next_cursor : Cursor) (before after : Output) {all : List ℕ × Pen}

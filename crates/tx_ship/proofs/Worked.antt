@@ -7,11 +7,13 @@ use Rattle.tx_node.specs.declared.head.Direction.TheVariants.{Horizontal, Vertic
 use Rattle.tx_node.specs.declared.head.Setting.{Setting}
 use Rattle.tx_node.specs.declared.head.Setting.TheVariants.{Natural, Set}
 use Rattle.tx_node.specs.declared.plain.KernKind.TheVariants.{Implicit, Explicit}
-use Rattle.tx_node.specs.declared.plain.LeadersKind.TheVariants.{Aligned}
+use Rattle.tx_node.specs.declared.plain.LeadersKind.{LeadersKind}
+use Rattle.tx_node.specs.declared.plain.LeadersKind.TheVariants.{Aligned, Centered, Expanded}
 use Rattle.tx_node.specs.declared.plain.Plain.TheVariants.{Kern, Glue, Penalty, Character}
 use Rattle.tx_node.specs.declared.plain.Shared.TheVariants.{Rule, Leaders, Special}
 use Rattle.tx_node.specs.declared.rule.Rule.{Rule as RuleSides}
-use Rattle.tx_node.specs.Items.{Item, plain, shared, boxed, items_of}
+use Rattle.tx_node.specs.Copies.{copies_of}
+use Rattle.tx_node.specs.Items.{Item, plain, shared, boxed, box_leaders, items_of}
 use Rattle.tx_dvi.specs.Dvi.{four_bytes, unsigned_bytes, definition_bytes}
 use Rattle.tx_tfm.specs.declared.named.NamedFont.{NamedFont}
 use Rattle.tx_tfm.specs.declared.state.FontState.{FontState}
@@ -20,8 +22,8 @@ use Rattle.tx_tfm.specs.Format.{tfm_of, word_at, design_size_of}
 use Rattle.tx_ship.specs.Characters.{font_commands, definition_commands, choice, set_code}
 use Rattle.tx_dvi.specs.declared.placed.Placed.{Placed}
 use Rattle.tx_dvi.specs.declared.placed.Placed.TheVariants.{Lettered, Ruled, Noted}
-use Rattle.tx_ship.specs.Commands.{written_of, list_commands, character_item, rule_item, rule_bytes, way, movement, special}
-use Rattle.tx_ship.specs.Placing.{placed, placed_list}
+use Rattle.tx_ship.specs.Commands.{written_of, list_commands, character_item, rule_item, rule_bytes, way, movement, special, copied, copy_way}
+use Rattle.tx_ship.specs.Placing.{placed, placed_list, placed_copies}
 use Rattle.tx_ship.specs.Registers.{registered}
 
 -- sizes and items
@@ -190,3 +192,52 @@ by-5 = refl
 by-minus_1 : line (Set (record { change = Shrink; order = 0; total = pos 3; excess = negsuc 0 })) ≡ pos 0 ∷ pos 0 ∷ pos 1 ∷ []
 unfolding placed_list
 by-minus_1 = refl
+
+-- \hbox to 3pt{\leaders\copy1\hskip0pt plus 1fil}, where the box is \hbox{\vrule width 1pt height 1pt depth 0pt}
+abbrev copies : LeadersKind → ℤ → ℕ → BoxHead → Item → Item
+copies kind width stretch repeated inside =
+    box_leaders (record { kind = kind; glue = record { width = width; stretch = pos stretch; stretch_order = 1; shrink = pos 0; shrink_order = 0 } }) repeated (items_of (inside ∷ []))
+
+abbrev filled : ℕ → Setting
+filled excess = Set (record { change = Stretch; order = 1; total = pos 65536; excess = pos excess })
+
+leaders-page : page (head Horizontal 196608 65536 0 (filled 196608)) (copies Aligned (pos 0) 65536 (head Horizontal 65536 65536 0 Natural) (rule_of 65536 65536 0) ∷ [])
+    ≡ 159 ∷ 1 ∷ 0 ∷ 0 ∷ 141 ∷ 132 ∷ 0 ∷ 1 ∷ 0 ∷ 0 ∷ 0 ∷ 1 ∷ 0 ∷ 0 ∷ 142 ∷ 145 ∷ 1 ∷ 0 ∷ 0 ∷ 141 ∷ 132 ∷ 0 ∷ 1 ∷ 0 ∷ 0 ∷ 0 ∷ 1 ∷ 0 ∷ 0 ∷ 142
+    ∷ 145 ∷ 1 ∷ 0 ∷ 0 ∷ 141 ∷ 132 ∷ 0 ∷ 1 ∷ 0 ∷ 0 ∷ 0 ∷ 1 ∷ 0 ∷ 0 ∷ 142 ∷ []
+unfolding list_commands copied copy_way copies_of rule_item rule_bytes way movement four_bytes
+leaders-page = refl
+
+-- Leaders with a remainder: behind a kern of 2sp, and of -2sp, \leaders of a box 3sp wide in 9sp; \cleaders of it in 8sp; \xleaders of a
+-- box 4sp wide in 11sp
+abbrev along : List Item → List ℤ
+along list = rights (placed (record { head = head Horizontal 20 1 0 Natural; list = list }) (pos 0) (pos 0))
+
+abbrev wide : ℕ → BoxHead
+wide width = head Horizontal width 1 0 Natural
+
+behind-2 : along (kern_of 2 ∷ copies Aligned (pos 9) 0 (wide 3) (rule_of 3 1 0) ∷ []) ≡ pos 3 ∷ pos 6 ∷ []
+unfolding placed_list placed_copies copies_of
+behind-2 = refl
+
+before-2 : along (plain (Kern Explicit (negsuc 1)) ∷ copies Aligned (pos 9) 0 (wide 3) (rule_of 3 1 0) ∷ []) ≡ pos 0 ∷ pos 3 ∷ []
+unfolding placed_list placed_copies copies_of
+before-2 = refl
+
+centered-2 : along (copies Centered (pos 8) 0 (wide 3) (rule_of 3 1 0) ∷ []) ≡ pos 1 ∷ pos 4 ∷ []
+unfolding placed_list placed_copies copies_of
+centered-2 = refl
+
+expanded-2 : along (copies Expanded (pos 11) 0 (wide 4) (rule_of 4 1 0) ∷ []) ≡ pos 1 ∷ pos 6 ∷ []
+unfolding placed_list placed_copies copies_of
+expanded-2 = refl
+
+-- \vbox{\kern 2sp\cleaders\vbox{\hrule width 5sp height 2sp depth 1sp}\vskip 8sp}: the corners of the rules lie 1sp below their baselines
+abbrev downs : List Placed → List ℤ
+downs [] = []
+downs (Lettered c ∷ rest) = c.v ∷ downs rest
+downs (Ruled r ∷ rest) = r.v ∷ downs rest
+downs (Noted s ∷ rest) = s.v ∷ downs rest
+
+down-2 : downs (placed (record { head = head Vertical 5 10 0 Natural; list = kern_of 2 ∷ copies Centered (pos 8) 0 (head Vertical 5 2 1 Natural) (rule_of 5 2 1) ∷ [] }) (pos 0) (pos 0)) ≡ pos 6 ∷ pos 9 ∷ []
+unfolding placed_list placed_copies copies_of
+down-2 = refl

@@ -8,7 +8,7 @@ use Rattle.tx_node.specs.declared.plain.Plain.{Plain}
 use Rattle.tx_node.specs.declared.plain.Plain.TheVariants.{Kern, Glue, Penalty, Character}
 use Rattle.tx_node.specs.declared.plain.Shared.{Shared}
 use Rattle.tx_node.specs.declared.plain.Shared.TheVariants.{Rule, Leaders, Special, Ligature, Mark}
-use Rattle.tx_node.specs.Items.{Item, plain, shared, boxed, discretionary, adjustment, insertion, Items, none, more}
+use Rattle.tx_node.specs.Items.{Item, plain, shared, boxed, discretionary, adjustment, insertion, box_leaders, Items, none, more}
 use Rattle.tx_tfm.specs.declared.named.NamedFont.{NamedFont}
 use Rattle.tx_tfm.specs.declared.state.FontState.{FontState}
 use Rattle.tx_tfm.specs.Format.{checksum_of, design_size_of}
@@ -53,7 +53,7 @@ IsSharedOfFonts fonts (Special text) = Unit {0}
 IsSharedOfFonts fonts (Ligature l) = IsOfFont fonts l.character
 IsSharedOfFonts fonts (Mark text) = Unit {0}
 
--- so for all characters of a list, and of the boxes in it; other lists in it are not shipped
+-- so for all characters of a list, and of the boxes in it, those of leaders too; other lists in it are not shipped
 abbrev mutual
   pub AreOfFonts : List FontState → Items → Type 0
   AreOfFonts fonts none = Unit {0}
@@ -66,6 +66,7 @@ abbrev mutual
   IsItemOfFonts fonts (discretionary replaced pre post) = Unit {0}
   IsItemOfFonts fonts (adjustment inner) = Unit {0}
   IsItemOfFonts fonts (insertion inserted inner) = Unit {0}
+  IsItemOfFonts fonts (box_leaders head repeated inner) = AreOfFonts fonts inner
 
 -- a font is defined at its first use
 unfoldable pub definition_commands : FontDefinition → ReaderFonts → List ℕ × ReaderFonts

@@ -1,17 +1,20 @@
 -- The commands of a page (TeX: The Program, sections 607, 615 to 640 and 1368; the DVI standard).
-use Rattle.std.specs.Prelude.{ℕ, Bool, true, false, suc, ◌+◌, ◌-◌, ◌^◌, ◌==◌, ◌&&◌, nat_lt, min, max, ℤ, pos, ◌+ℤ◌, ◌-ℤ◌, unsigned_abs, List, [], ◌∷◌, ◌++◌, length, drop, Option, Some, None, if◌then◌else◌}
+use Rattle.std.specs.Prelude.{ℕ, Bool, true, false, zero, suc, ◌+◌, ◌-◌, ◌^◌, ◌==◌, ◌&&◌, nat_lt, min, max, ℤ, pos, ◌+ℤ◌, ◌-ℤ◌, unsigned_abs, List, [], ◌∷◌, ◌++◌, length, drop, Option, Some, None, if◌then◌else◌}
 use Rattle.std.specs.Int.{is_positive}
 use Rattle.tx_dvi.specs.Dvi.{four_bytes}
 use Rattle.tx_dvi.specs.Meaning.{ReaderFonts, page_start}
 use Rattle.tx_node.specs.declared.character.Character.{Character as CharacterItem}
 use Rattle.tx_node.specs.declared.head.Direction.{Direction}
 use Rattle.tx_node.specs.declared.head.Direction.TheVariants.{Horizontal, Vertical}
+use Rattle.tx_node.specs.declared.head.Setting.{Setting}
+use Rattle.tx_node.specs.declared.places.Copies.{Copies}
 use Rattle.tx_node.specs.declared.plain.Plain.{Plain}
 use Rattle.tx_node.specs.declared.plain.Plain.TheVariants.{Kern, Glue, Penalty, Character}
 use Rattle.tx_node.specs.declared.plain.Shared.{Shared}
 use Rattle.tx_node.specs.declared.plain.Shared.TheVariants.{Rule, Leaders, Special, Ligature, Mark}
-use Rattle.tx_node.specs.Items.{Item, plain, shared, boxed, discretionary, adjustment, insertion, Items, none, more, PackedBox, items_of}
-use Rattle.tx_node.specs.Setting.{Reach, begun}
+use Rattle.tx_node.specs.Items.{Item, plain, shared, boxed, discretionary, adjustment, insertion, box_leaders, Items, none, more, PackedBox, items_of}
+use Rattle.tx_node.specs.Setting.{Reach, begun, behind}
+use Rattle.tx_node.specs.Shipped.{copies_made}
 use Rattle.tx_tfm.specs.declared.named.NamedFont.{NamedFont}
 use Rattle.tx_tfm.specs.declared.state.FontState.{FontState}
 use Rattle.tx_tfm.specs.Fonts.{font_at}
@@ -22,7 +25,7 @@ use Rattle.tx_ship.specs.declared.places.Sides.{Sides}
 use Rattle.tx_ship.specs.declared.places.Cursor.{Cursor}
 use Rattle.tx_ship.specs.declared.places.CornerRule.{CornerRule}
 use Rattle.tx_ship.specs.Characters.{definition_for, font_commands, set_code}
-use Rattle.tx_ship.specs.Standing.{next, span_of, size_of, reference, upright, shifted, rule_sides, leaders_sides, frame_at, page_frame}
+use Rattle.tx_ship.specs.Standing.{next, span_of, size_of, reference, upright, shifted, rule_sides, leaders_sides, copies_from, first_copy, copy_at, frame_at, page_frame}
 
 -- how many bytes a movement takes, by its amount without its sign, with a bit left for that
 abbrev pub movement_size : ℤ → ℕ
@@ -189,6 +192,30 @@ box_item direction pen at entered inside =
 abbrev pub followed_by : List ℕ → List ℕ × Pen → List ℕ × Pen
 followed_by bytes others = (bytes ++ others.0, others.1)
 
+-- the way to a copy that leaders make of a box: in a horizontal list the reader goes down first, in a vertical one to the right
+-- (sections 628 and 637)
+unfoldable pub copy_way : Direction → Cursor → Cursor → List ℕ
+copy_way Horizontal from to = down (to.down -ℤ from.down) ++ right (to.right -ℤ from.right)
+copy_way Vertical from to = way from to
+
+-- a copy with its reference point there, where `inside` are the commands of its list and the pen behind them; the reader goes there
+-- before the push, and is there behind the pop
+abbrev pub copy_commands : Direction → Pen → Cursor → List ℕ × Pen → List ℕ × Pen
+copy_commands direction pen at inside = (copy_way direction pen.at at ++ framed inside.0, record { at = at; fonts = inside.1.fonts })
+
+-- so many copies, of which the first begins there and each so far behind the one before it: `inside` are the commands of the list of
+-- one of them by its reference point
+unfoldable pub copied : Direction → (Point → Pen → List ℕ × Pen) → (ℤ → Point) → ℕ → ℕ → ℤ → Pen → List ℕ × Pen
+copied direction inside stands step zero from pen = ([], pen)
+copied direction inside stands step (suc left) from pen =
+    let at : Cursor = cursor_at (stands from) in
+    let made : List ℕ × Pen = copy_commands direction pen at (inside (stands from) (pen_at pen.fonts at)) in
+    followed_by made.0 (copied direction inside stands step left (from +ℤ pos step) made.1)
+
+-- of a box whose list is empty no copy has commands
+abbrev pub if_entered : Bool → Pen → List ℕ × Pen → List ℕ × Pen
+if_entered entered pen made = if entered then made else ([], pen)
+
 -- the commands of a list and of an item, each with the pen behind them
 unfoldable mutual
   pub list_commands : List FontState → Frame → Reach → Pen → Items → List ℕ × Pen
@@ -207,6 +234,11 @@ unfoldable mutual
   item_commands fonts frame span pen (discretionary replaced pre post) = ([], pen)
   item_commands fonts frame span pen (adjustment inner) = ([], pen)
   item_commands fonts frame span pen (insertion inserted inner) = ([], pen)
+  item_commands fonts frame span pen (box_leaders head repeated inner) =
+      let copies : Copies = copies_from frame span head.kind repeated in
+      if_entered (is_entered inner) pen
+      (copied frame.head.direction (λ at own. list_commands fonts (frame_at repeated at) begun own inner) (copy_at frame repeated) copies.step copies.count
+      (first_copy span copies) pen)
 
 -- those of the list of a box with its reference point there, and of the box in a list of this direction
 abbrev pub inside : List FontState → PackedBox → Point → Pen → List ℕ × Pen
@@ -216,19 +248,32 @@ abbrev pub box_commands : List FontState → Direction → Pen → Point → Pac
 box_commands fonts direction pen at b =
     box_item direction pen (cursor_at at) (is_entered (items_of b.list)) (inside fonts b at (entering direction pen (cursor_at at)))
 
--- how deep the boxes nest that TeX enters
+-- how deep the boxes nest that TeX enters, in a list whose glue is set so, from an item on which stands there; of an item, by how many
+-- copies it makes: the box of leaders counts where they make some, also if its list is empty (section 628)
 unfoldable mutual
-  pub level_of : Items → ℕ
-  level_of none = 0
-  level_of (more item rest) = max (item_level item) (level_of rest)
+  pub level_of : Direction → Setting → Reach → Items → ℕ
+  level_of direction setting reach none = 0
+  level_of direction setting reach (more item rest) =
+      max (item_level (copies_made direction setting reach (behind direction setting reach item) item) item)
+      (level_of direction setting (behind direction setting reach item) rest)
 
-  pub item_level : Item → ℕ
-  item_level (plain p) = 0
-  item_level (shared s) = 0
-  item_level (boxed shift head inner) = if is_entered inner then suc (level_of inner) else 0
-  item_level (discretionary replaced pre post) = 0
-  item_level (adjustment inner) = 0
-  item_level (insertion inserted inner) = 0
+  pub item_level : ℕ → Item → ℕ
+  item_level copies (plain p) = 0
+  item_level copies (shared s) = 0
+  item_level copies (boxed shift head inner) = if is_entered inner then suc (level_of head.direction head.setting begun inner) else 0
+  item_level copies (discretionary replaced pre post) = 0
+  item_level copies (adjustment inner) = 0
+  item_level copies (insertion inserted inner) = 0
+  item_level copies (box_leaders head repeated inner) = if copies == 0 then 0 else suc (level_of repeated.direction repeated.setting begun inner)
+
+-- the same of a list none of whose items makes a copy
+abbrev pub alone_level : Items → ℕ
+alone_level none = 0
+alone_level (more item rest) = max (item_level 0 item) (alone_level rest)
+
+-- in the list of a box
+abbrev pub level_inside : PackedBox → ℕ
+level_inside b = level_of b.head.direction b.head.setting begun (items_of b.list)
 
 -- the reader of a page begins at the left upper corner, and knows the fonts of earlier pages
 abbrev pub page_cursor : Cursor

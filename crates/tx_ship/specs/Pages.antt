@@ -4,12 +4,12 @@ use Rattle.std.specs.Int.{int_max}
 use Rattle.tx_dvi.specs.declared.font.FontDefinition.{FontDefinition}
 use Rattle.tx_dvi.specs.declared.page.DateParameters.{DateParameters}
 use Rattle.tx_dvi.specs.Page.{Page}
-use Rattle.tx_node.specs.Items.{PackedBox, items_of}
+use Rattle.tx_node.specs.Items.{PackedBox}
 use Rattle.tx_tfm.specs.declared.state.FontState.{FontState}
 use Rattle.tx_ship.specs.declared.params.ShipParams.{ShipParams}
 use Rattle.tx_ship.specs.declared.error.ShipError.{ShipError}
 use Rattle.tx_ship.specs.declared.error.ShipError.TheVariants.{SizeTooLarge, OutsidePage, BodyTooLong}
-use Rattle.tx_ship.specs.Commands.{Pen, written_of, level_of}
+use Rattle.tx_ship.specs.Commands.{Pen, written_of, level_inside}
 use Rattle.tx_ship.specs.Registers.{registered}
 use Rattle.tx_ship.specs.Within.{page_lies}
 
@@ -39,7 +39,7 @@ page_made b params body fonts = record {
   counts = params.counts;
   height = int_max (pos 0) (page_height b params);
   width = int_max (pos 0) (page_width b params);
-  nesting = level_of (items_of b.list);
+  nesting = level_inside b;
   mag = unsigned_abs params.mag;
   date = date_of params;
 }

@@ -5,20 +5,18 @@ use Rattle.tx_node.specs.declared.character.Character.{Character as CharacterIte
 use Rattle.tx_node.specs.declared.head.BoxHead.{BoxHead}
 use Rattle.tx_node.specs.declared.head.Direction.{Direction}
 use Rattle.tx_node.specs.declared.head.Direction.TheVariants.{Horizontal, Vertical}
+use Rattle.tx_node.specs.declared.places.Copies.{Copies}
+use Rattle.tx_node.specs.declared.plain.LeadersKind.{LeadersKind}
 use Rattle.tx_node.specs.declared.rule.Rule.{Rule as RuleSides}
 use Rattle.tx_node.specs.Items.{Item, PackedBox}
-use Rattle.tx_node.specs.Sizes.{side}
+use Rattle.tx_node.specs.Sizes.{box_advance, side}
+use Rattle.tx_node.specs.Copies.{copies_of}
 use Rattle.tx_node.specs.Setting.{Reach, behind, stands}
 use Rattle.tx_ship.specs.declared.places.Point.{Point}
 use Rattle.tx_ship.specs.declared.places.Frame.{Frame}
-use Rattle.tx_ship.specs.declared.places.Reached.{Reached}
 use Rattle.tx_ship.specs.declared.places.Span.{Span}
 use Rattle.tx_ship.specs.declared.places.Stand.{Stand}
 use Rattle.tx_ship.specs.declared.places.Sides.{Sides}
-
--- how far the code's walk along a list has come
-abbrev pub reach_of : Reached → Reach
-reach_of reached = record { natural = reached.natural; sum = reached.sum }
 
 -- where the list of a box begins: at its left edge, or at its upper one
 abbrev pub start_of : Direction → Frame → ℤ
@@ -64,6 +62,19 @@ rule_sides Vertical head r = record { width = unwrap_or r.width head.width; heig
 abbrev pub leaders_sides : Direction → BoxHead → RuleSides → ℤ → Sides
 leaders_sides Horizontal head r size = record { width = size; height = unwrap_or r.height head.height; depth = unwrap_or r.depth head.depth }
 leaders_sides Vertical head r size = record { width = unwrap_or r.width head.width; height = size; depth = pos 0 }
+
+-- the copies that leaders from here to there make of a box, whose whole multiples are counted from where the list around begins; and
+-- where the first of them begins
+abbrev pub copies_from : Frame → Span → LeadersKind → BoxHead → Copies
+copies_from frame span kind repeated =
+    copies_of kind (span.from -ℤ start_of frame.head.direction frame) (size_of span) (box_advance frame.head.direction repeated)
+
+abbrev pub first_copy : Span → Copies → ℤ
+first_copy span copies = span.from +ℤ pos copies.before
+
+-- the reference point of a copy that begins there
+abbrev pub copy_at : Frame → BoxHead → ℤ → Point
+copy_at frame repeated from = reference frame.head.direction frame (shifted from (pos 0) repeated)
 
 -- those of a character
 abbrev pub character_sides : CharacterItem → Sides

@@ -1,13 +1,14 @@
 -- What lies on a page: nothing does past 2^30-1 sp.
-use Rattle.std.specs.Prelude.{◌≡◌, ◌≢◌, Bool, true, false, not, ◌&&◌, ◌||◌, nat_le, ◌^◌, ℤ, pos, ◌+ℤ◌, ◌-ℤ◌, unsigned_abs, ◌≤◌, if◌then◌else◌}
+use Rattle.std.specs.Prelude.{◌≡◌, ◌≢◌, Bool, true, false, not, ◌&&◌, ◌||◌, ℕ, zero, suc, nat_le, ◌^◌, ℤ, pos, ◌+ℤ◌, ◌-ℤ◌, unsigned_abs, ◌≤◌, if◌then◌else◌}
 use Rattle.std.specs.Int.{is_positive}
 use Rattle.tx_node.specs.declared.character.Character.{Character as CharacterItem}
 use Rattle.tx_node.specs.declared.head.BoxHead.{BoxHead}
+use Rattle.tx_node.specs.declared.places.Copies.{Copies}
 use Rattle.tx_node.specs.declared.plain.Plain.{Plain}
 use Rattle.tx_node.specs.declared.plain.Plain.TheVariants.{Kern, Glue, Penalty, Character}
 use Rattle.tx_node.specs.declared.plain.Shared.{Shared}
 use Rattle.tx_node.specs.declared.plain.Shared.TheVariants.{Rule, Leaders, Special, Ligature, Mark}
-use Rattle.tx_node.specs.Items.{Item, plain, shared, boxed, discretionary, adjustment, insertion, Items, none, more, PackedBox, items_of}
+use Rattle.tx_node.specs.Items.{Item, plain, shared, boxed, discretionary, adjustment, insertion, box_leaders, Items, none, more, PackedBox, items_of}
 use Rattle.tx_node.specs.Setting.{Reach, begun}
 use Rattle.tx_ship.specs.declared.error.ShipError.{ShipError}
 use Rattle.tx_ship.specs.declared.error.ShipError.TheVariants.{OutsidePage, OutOfMemory}
@@ -18,7 +19,7 @@ use Rattle.tx_ship.specs.declared.places.Sides.{Sides}
 use Rattle.tx_ship.specs.declared.places.Cursor.{Cursor}
 use Rattle.tx_ship.specs.declared.places.CornerRule.{CornerRule}
 use Rattle.tx_ship.specs.Commands.{is_entered}
-use Rattle.tx_ship.specs.Standing.{next, span_of, size_of, reference, upright, shifted, rule_sides, leaders_sides, character_sides, box_sides, frame_at, page_frame}
+use Rattle.tx_ship.specs.Standing.{next, span_of, size_of, reference, upright, shifted, rule_sides, leaders_sides, copies_from, first_copy, copy_at, character_sides, box_sides, frame_at, page_frame}
 
 -- a place of a page
 abbrev pub IsOnPage : ℤ → Type 0
@@ -82,6 +83,12 @@ shared_lies frame span (Special text) = special_lies frame span
 shared_lies frame span (Ligature l) = character_lies frame span l.character
 shared_lies frame span (Mark text) = true
 
+-- so many copies, of which the first begins there and each so far behind the one before it: `lies` says whether one of them does by its
+-- reference point
+unfoldable pub copies_lie : (Point → Bool) → (ℤ → Point) → ℕ → ℕ → ℤ → Bool
+copies_lie lies stands step zero from = true
+copies_lie lies stands step (suc left) from = lies (stands from) && copies_lie lies stands step left (from +ℤ pos step)
+
 -- every character, rule and special of a list, every box in it that isn't empty, and what these hold
 unfoldable mutual
   pub list_lies : Frame → Reach → Items → Bool
@@ -97,10 +104,19 @@ unfoldable mutual
   item_lies frame span (discretionary replaced pre post) = true
   item_lies frame span (adjustment inner) = true
   item_lies frame span (insertion inserted inner) = true
+  item_lies frame span (box_leaders head repeated inner) =
+      let copies : Copies = copies_from frame span head.kind repeated in
+      not (is_entered inner)
+      || copies_lie (λ at. head_lies at repeated && list_lies (frame_at repeated at) begun inner) (copy_at frame repeated) copies.step copies.count
+      (first_copy span copies)
 
 -- what a box with its reference point there holds
 abbrev pub inside_lies : PackedBox → Point → Bool
 inside_lies b at = list_lies (frame_at b.head at) begun (items_of b.list)
+
+-- a copy of a box, with what it holds
+abbrev pub copy_lies : PackedBox → Point → Bool
+copy_lies b at = head_lies at b.head && inside_lies b at
 
 -- the box of a page, which is as another box, and what it holds
 abbrev pub page_lies : PackedBox → ℤ → ℤ → Bool

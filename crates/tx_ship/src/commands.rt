@@ -76,6 +76,26 @@ pub fn move_down(body: &mut Vec<u8>, from: Cursor, to: Cursor) -> Result<(), All
     move_by(body, DOWN1, difference(to.down, from.down))
 }
 
+/// Appends a movement to the right.
+fn move_right(body: &mut Vec<u8>, from: Cursor, to: Cursor) -> Result<(), AllocError>
+    requires from { IsReader from }
+    requires to { IsReader to }
+    ensures { OnOk result (body.new.items ≡ body.old.items ++ spec.right (to.right -ℤ from.right)) }
+{
+    move_by(body, RIGHT1, difference(to.right, from.right))
+}
+
+/// Appends the movements from one point of a page to another, that down first.
+fn move_down_first(body: &mut Vec<u8>, from: Cursor, to: Cursor) -> Result<(), AllocError>
+    requires from { IsReader from }
+    requires to { IsReader to }
+    ensures { OnOk result (body.new.items ≡ body.old.items ++ (spec.down (to.down -ℤ from.down) ++ spec.right (to.right -ℤ from.right))) }
+{
+    move_down(body, from, to)?;
+    move_right(body, from, to)?;
+    Ok(())
+}
+
 /// Appends the movements from one point of a page to another.
 #[tactic(auto, unfolding(crate::specs::Commands::way))]
 pub fn move_to(body: &mut Vec<u8>, from: Cursor, to: Cursor) -> Result<(), AllocError>
@@ -86,6 +106,24 @@ pub fn move_to(body: &mut Vec<u8>, from: Cursor, to: Cursor) -> Result<(), Alloc
     move_by(body, RIGHT1, difference(to.right, from.right))?;
     move_down(body, from, to)?;
     Ok(())
+}
+
+/// Appends the movements to a copy that leaders make of a box in a list of this direction.
+#[tactic(auto, unfolding(crate::specs::Commands::copy_way))]
+pub fn move_to_copy(
+    body: &mut Vec<u8>,
+    direction: Direction,
+    from: Cursor,
+    to: Cursor,
+) -> Result<(), AllocError>
+    requires from { IsReader from }
+    requires to { IsReader to }
+    ensures { OnOk result (body.new.items ≡ body.old.items ++ spec.copy_way direction from to) }
+{
+    match direction {
+        Direction::Horizontal => move_down_first(body, from, to),
+        Direction::Vertical => move_to(body, from, to),
+    }
 }
 
 /// The command of a rule in a list of this direction.

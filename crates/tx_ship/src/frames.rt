@@ -1,14 +1,13 @@
 //! Where the items of a list stand on the page.
-ghost use Rattle.std.specs.Prelude.{◌≡◌, ◌≤◌, ◌<◌, ◌+◌, ◌^◌, pos, true, unsigned_abs};
+ghost use Rattle.std.specs.Prelude.{◌≡◌, ◌≤◌, ◌<◌, ◌^◌, ◌+ℤ◌, pos, true, unsigned_abs};
 ghost use Rattle.tx_node.specs.Items.{items_of};
-ghost use Rattle.tx_node.specs.Nodes.{item_of};
-ghost use Rattle.tx_node.specs.Setting.{IsSet, sums_fit};
-ghost use Rattle.tx_ship.specs.Commands.{is_entered as entered_spec};
+ghost use Rattle.tx_node.specs.Setting.{IsSet, reach_of, sums_fit};
+ghost use Rattle.tx_ship.specs.Commands.{cursor_at, is_entered as entered_spec};
 ghost use Rattle.tx_ship.specs.Standing as spec;
 ghost use Rattle.tx_ship.specs.Within as within;
 
-use crate::places::{Frame, Point, Reached, Sides, Span, Stand};
-use tx_node::{BoxHead, BoxNode, Direction, Node, Rule, side};
+use crate::places::{Frame, Point, Sides, Span, Stand};
+use tx_node::{BoxHead, BoxLeaders, BoxNode, Copies, Direction, Reached, Rule, side};
 
 /// Where the list of a box begins: at its left edge, or at its upper one.
 fn start_of(frame: Frame) -> i128
@@ -28,30 +27,16 @@ pub fn place(frame: Frame, reached: Reached) -> i128
     requires is_set { IsSet frame.head.setting }
     requires natural { unsigned_abs reached.natural ≤ 2 ^ 97 }
     requires sum { unsigned_abs reached.sum < 2 ^ 30 }
-    ensures value { result ≡ spec.place frame (spec.reach_of reached) }
+    ensures value { result ≡ spec.place frame (reach_of reached) }
     ensures near { unsigned_abs result ≤ 2 ^ 99 }
 {
-    let moved = i128::from(frame.head.setting.moved(reached.sum));
-    start_of(frame) + (reached.natural + moved)
-}
-
-/// How far the list has come behind an item, whose part of what is set leaves the sum a dimension.
-pub fn behind(frame: Frame, reached: Reached, node: &Node) -> Reached
-    requires natural { unsigned_abs reached.natural ≤ 2 ^ 96 }
-    requires sum { unsigned_abs reached.sum < 2 ^ 30 }
-    ensures value { spec.reach_of result ≡ spec.next frame (spec.reach_of reached) (item_of node.now) }
-    ensures near { unsigned_abs result.natural ≤ unsigned_abs reached.natural + 2 ^ 32 }
-{
-    Reached {
-        natural: reached.natural + i128::from(node.advance(frame.head.direction)),
-        sum: reached.sum + frame.head.setting.share(node),
-    }
+    start_of(frame) + frame.head.stands(reached)
 }
 
 /// The reference point of an item.
 fn reference(frame: Frame, stand: Stand) -> Point
     requires near { within.IsNearBox frame }
-    requires from { unsigned_abs stand.from ≤ 2 ^ 99 }
+    requires from { unsigned_abs stand.from ≤ 2 ^ 100 }
     requires shift { unsigned_abs stand.shift ≤ 2 ^ 31 }
     requires height { unsigned_abs stand.height ≤ 2 ^ 100 }
     ensures value { result ≡ spec.reference frame.head.direction frame stand }
@@ -150,6 +135,57 @@ pub fn leaders_sides(head: BoxHead, rule: Rule, span: Span) -> Sides
     }
 }
 
+/// The copies that leaders from here to there make of their box.
+pub fn copies_from(frame: Frame, span: Span, leaders: &BoxLeaders) -> Copies
+    requires near { within.IsNearBox frame }
+    requires span_near { within.IsNearSpan span }
+    ensures value { result ≡ spec.copies_from frame span leaders.now.head.kind leaders.now.inner.head }
+    ensures before { result.before ≤ 2 ^ 34 }
+    ensures step { result.step ≤ 2 ^ 34 }
+{
+    leaders.copies(
+        frame.head.direction,
+        span.from - start_of(frame),
+        size_of(span),
+    )
+}
+
+/// Where the first copy begins.
+pub fn first_copy(span: Span, copies: Copies) -> i128
+    requires span_near { within.IsNearSpan span }
+    requires before { copies.before ≤ 2 ^ 34 }
+    ensures value { result ≡ spec.first_copy span copies }
+    ensures near { unsigned_abs result ≤ 2 ^ 100 }
+{
+    span.from + copies.before as i128
+}
+
+/// Where the copy behind one begins that begins there.
+pub fn next_copy(from: i128, step: u128) -> i128
+    requires from { unsigned_abs from ≤ 2 ^ 32 }
+    requires step { step ≤ 2 ^ 34 }
+    ensures value { result ≡ from +ℤ pos step }
+    ensures near { unsigned_abs result ≤ 2 ^ 100 }
+{
+    from + step as i128
+}
+
+/// The reference point of a copy that begins there.
+pub fn copy_at(frame: Frame, inner: &BoxNode, from: i128) -> Point
+    requires near { within.IsNearBox frame }
+    requires from { unsigned_abs from ≤ 2 ^ 100 }
+    ensures value { result ≡ spec.copy_at frame inner.now.head from }
+    ensures near { within.IsNear result }
+    ensures on_page { within.IsReader (cursor_at result) → unsigned_abs from ≤ 2 ^ 32 }
+{
+    let stand = Stand {
+        from,
+        shift: 0,
+        height: i128::from(inner.height()),
+    };
+    reference(frame, stand)
+}
+
 /// The sides of a box.
 pub fn box_sides(inner: &BoxNode) -> Sides
     ensures value { result ≡ spec.box_sides inner.now.head }
@@ -162,20 +198,29 @@ pub fn box_sides(inner: &BoxNode) -> Sides
     }
 }
 
-/// A box with its reference point there, which sets its glue by what its list has of it.
+/// What a box is beside its list, which sets its glue by what its list has of it.
+pub fn head_of(inner: &BoxNode) -> BoxHead
+    ensures value { result ≡ inner.now.head }
+    ensures is_set { IsSet result.setting }
+    ensures sums { sums_fit result.setting (pos 0) (items_of inner.now.list) ≡ true }
+{
+    BoxHead {
+        direction: inner.direction(),
+        width: inner.width(),
+        height: inner.height(),
+        depth: inner.depth(),
+        setting: inner.setting(),
+    }
+}
+
+/// A box with its reference point there.
 pub fn frame_at(inner: &BoxNode, at: Point) -> Frame
     ensures value { result ≡ spec.frame_at inner.now.head at }
     ensures is_set { IsSet result.head.setting }
     ensures sums { sums_fit result.head.setting (pos 0) (items_of inner.now.list) ≡ true }
 {
     Frame {
-        head: BoxHead {
-            direction: inner.direction(),
-            width: inner.width(),
-            height: inner.height(),
-            depth: inner.depth(),
-            setting: inner.setting(),
-        },
+        head: head_of(inner),
         at,
     }
 }

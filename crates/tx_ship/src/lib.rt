@@ -3,8 +3,8 @@
 //!
 //! Proved: the bytes are exactly the defined ones; they mean what the plain commands mean, whose movements use no registers, and
 //! are no longer; and, where each character is in its font with the sizes that this gives it, that is the box's characters, rules
-//! and specials at their absolute places, and the definitions of the fonts that are new, to a reader of DVI files. Only tested:
-//! that the reader is the standard's, by dvitype.
+//! and specials at their absolute places, those of each copy that leaders make of a box among them, and the definitions of the
+//! fonts that are new, to a reader of DVI files. Only tested: that the reader is the standard's, by dvitype.
 //!
 //! Modules in reading order: `params`, `error`, `places`, `frames`, `within`, `commands`, `output`, `fonts`, `characters`, `plain`,
 //! `shared`, `list`, `level`, `amounts`, `registers`, `ship`.

@@ -1,23 +1,26 @@
 //! The commands of a list, appended to those before it.
 ghost use Rattle.std.specs.Prelude.{◌≡◌, ◌≤◌, ◌^◌, ◌++◌, pos, true, unsigned_abs, IsTrue, IfOk, IfErr, OnOk};
-ghost use Rattle.tx_node.specs.Items.{items_of};
+ghost use Rattle.tx_node.specs.Items.{items_of, leaders_item};
 ghost use Rattle.tx_node.specs.Nodes.{item_of, list_of};
 ghost use Rattle.tx_node.specs.Setting.{IsSet, sums_fit, begun};
 ghost use Rattle.tx_ship.specs.Commands as spec;
-ghost use Rattle.tx_ship.specs.Standing.{frame_at as framed_at};
+ghost use Rattle.tx_ship.specs.Standing.{copy_at as point_of_copy, frame_at as framed_at};
 ghost use Rattle.tx_ship.specs.Within as within;
 ghost use Rattle.tx_ship.specs.Written.{IsWritten};
 
-use crate::commands::{close, move_down, open};
+use crate::commands::{close, move_down, move_to_copy, open};
 use crate::error::ShipError;
-use crate::frames::{behind, box_sides, frame_at, is_entered, place, shifted_point};
+use crate::frames::{
+    box_sides, copies_from, copy_at, first_copy, frame_at, is_entered, next_copy, place,
+    shifted_point,
+};
 use crate::output::Output;
-use crate::places::{Cursor, Frame, Point, Reached, Span};
+use crate::places::{Cursor, Frame, Point, Span};
 use crate::plain::put_plain;
 use crate::shared::put_shared;
 use crate::within::{cursor_at, edges_lie, point_lies};
 use std::alloc::AllocError;
-use tx_node::{BoxNode, Direction, Node};
+use tx_node::{BoxLeaders, BoxNode, Copies, Direction, Node, Reached};
 use tx_tfm::Fonts;
 
 /// Goes to the baseline of a box in a list of this direction, and answers the cursor there.
@@ -66,7 +69,7 @@ pub fn put_list(
     let mut reached = Reached { natural: 0, sum: 0 };
     let mut from = place(frame, reached);
     for node in list {
-        reached = behind(frame, reached, node);
+        reached = frame.head.behind(reached, node);
         let to = place(frame, reached);
         cursor = put_node(output, fonts, node, frame, Span { from, to }, cursor)?;
         from = to;
@@ -102,7 +105,105 @@ fn put_node(
             put_box(output, fonts, inner, frame.head.direction, at, cursor)
         }
         Node::Discretionary(_) | Node::Adjustment(_) | Node::Insertion(_) => Ok(cursor),
+        Node::BoxLeaders(leaders) => put_leaders(output, fonts, leaders, frame, span, cursor),
     }
+}
+
+/// Appends the commands of the copies that leaders make of a box, of which one whose list is empty has none, and answers the cursor
+/// behind them.
+#[cycle(put)]
+#[tactic(auto, unfolding(crate::specs::Commands::list_commands, crate::specs::Within::list_lies))]
+fn put_leaders(
+    output: &mut Output,
+    fonts: &Fonts,
+    leaders: &BoxLeaders,
+    frame: Frame,
+    span: Span,
+    cursor: Cursor,
+) -> Result<Cursor, ShipError>
+    requires near { within.IsNearBox frame }
+    requires span_near { within.IsNearSpan span }
+    requires on_page { within.IsReader cursor }
+    ensures lies { OnOk result (within.item_lies frame span (leaders_item leaders.now.head leaders.now.inner) ≡ true) }
+    ensures outside { IfErr result (λ e. within.IsOutside e (within.item_lies frame span (leaders_item leaders.now.head leaders.now.inner))) }
+    ensures written { OnOk result (IsWritten output.old output.new (spec.item_commands fonts.now frame span (spec.pen_at output.old.fonts cursor) (leaders_item leaders.now.head leaders.now.inner))) }
+    ensures next { IfOk result (λ next. next ≡ (spec.item_commands fonts.now frame span (spec.pen_at output.old.fonts cursor) (leaders_item leaders.now.head leaders.now.inner)).1.at) }
+    ensures still { IfOk result within.IsReader }
+{
+    let inner = leaders.inner();
+    if !is_entered(inner) {
+        return Ok(cursor);
+    }
+    let copies = copies_from(frame, span, leaders);
+    put_copies(
+        output,
+        fonts,
+        inner,
+        frame,
+        copies,
+        first_copy(span, copies),
+        cursor,
+    )
+}
+
+/// Appends the commands of copies of a box, of which the first begins there, and answers the cursor behind them.
+#[cycle(put)]
+fn put_copies(
+    output: &mut Output,
+    fonts: &Fonts,
+    inner: &BoxNode,
+    frame: Frame,
+    copies: Copies,
+    first: i128,
+    start: Cursor,
+) -> Result<Cursor, ShipError>
+    requires near { within.IsNearBox frame }
+    requires step { copies.step ≤ 2 ^ 34 }
+    requires first { unsigned_abs first ≤ 2 ^ 100 }
+    requires on_page { within.IsReader start }
+    ensures lies { OnOk result (within.copies_lie (within.copy_lies inner.now) (point_of_copy frame inner.now.head) copies.step copies.count first ≡ true) }
+    ensures outside { IfErr result (λ e. within.IsOutside e (within.copies_lie (within.copy_lies inner.now) (point_of_copy frame inner.now.head) copies.step copies.count first)) }
+    ensures written { OnOk result (IsWritten output.old output.new (spec.copied frame.head.direction (spec.inside fonts.now inner.now) (point_of_copy frame inner.now.head) copies.step copies.count first (spec.pen_at output.old.fonts start))) }
+    ensures next { IfOk result (λ next. next ≡ (spec.copied frame.head.direction (spec.inside fonts.now inner.now) (point_of_copy frame inner.now.head) copies.step copies.count first (spec.pen_at output.old.fonts start)).1.at) }
+    ensures still { IfOk result within.IsReader }
+{
+    let mut cursor = start;
+    let mut from = first;
+    let mut left = copies.count;
+    while left > 0 {
+        let at = copy_at(frame, inner, from);
+        cursor = put_copy(output, fonts, inner, frame.head.direction, at, cursor)?;
+        from = next_copy(from, copies.step);
+        left -= 1;
+    }
+    Ok(cursor)
+}
+
+/// Appends the commands of a copy of a box in a list of this direction, with its reference point there, and answers the cursor at it.
+#[cycle(put)]
+fn put_copy(
+    output: &mut Output,
+    fonts: &Fonts,
+    inner: &BoxNode,
+    direction: Direction,
+    at: Point,
+    cursor: Cursor,
+) -> Result<Cursor, ShipError>
+    requires near { within.IsNear at }
+    requires on_page { within.IsReader cursor }
+    ensures lies { OnOk result (within.copy_lies inner.now at ≡ true) }
+    ensures outside { IfErr result (λ e. within.IsOutside e (within.copy_lies inner.now at)) }
+    ensures written { OnOk result (IsWritten output.old output.new (spec.copy_commands direction (spec.pen_at output.old.fonts cursor) (spec.cursor_at at) (spec.inside fonts.now inner.now at (spec.pen_at output.old.fonts (spec.cursor_at at))))) }
+    ensures next { IfOk result (λ next. next ≡ spec.cursor_at at) }
+    ensures still { IfOk result within.IsReader }
+{
+    if !box_lies(inner, at) {
+        return Err(ShipError::OutsidePage);
+    }
+    let reader = cursor_at(at);
+    move_to_copy(&mut output.body, direction, cursor, reader)?;
+    put_framed(output, fonts, inner, at, reader)?;
+    Ok(reader)
 }
 
 /// Appends the commands of a box in a list of this direction, with a push and a pop round those of its list.

@@ -15,13 +15,6 @@ pub struct Frame {
     pub at: Point,
 }
 
-/// How far a list has come: naturally, and how much it has had of the stretch or shrink that is set.
-#[derive(Clone, Copy)]
-pub struct Reached {
-    pub natural: i128,
-    pub sum: i64,
-}
-
 /// From where to where an item reaches once glue is set: to the right in a horizontal list, down in a vertical one.
 #[derive(Clone, Copy)]
 pub struct Span {

@@ -83,8 +83,8 @@ fn put_special_in(
     Ok(to)
 }
 
-/// Appends the commands of a larger item without a list of its own, and answers the cursor behind it. Leaders are a rule where
-/// their glue is longer than nothing.
+/// Appends the commands of a larger item without a list of its own, and answers the cursor behind it. Leaders of a rule are one
+/// where their glue is longer than nothing.
 pub fn put_shared(
     output: &mut Output,
     fonts: &Fonts,

@@ -16,7 +16,7 @@ ghost use Rattle.tx_ship.specs.Pages as spec;
 
 use crate::error::ShipError;
 use crate::frames::is_entered;
-use crate::level::list_level;
+use crate::level::level_inside;
 use crate::list::{box_lies, put_inside};
 use crate::output::{Output, PageFonts};
 use crate::params::ShipParams;
@@ -177,7 +177,7 @@ fn page_with(
     ensures { result ≡ spec.page_made node.now params.now commands fonts }
 {
     let most = node.nesting();
-    let nesting = list_level(node.list());
+    let nesting = level_inside(node);
     let within = nesting < most;
     prove!(within);
     PageParts {

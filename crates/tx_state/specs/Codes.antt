@@ -23,6 +23,8 @@ use Rattle.tx_tfm.specs.declared.state.FontState.{FontState}
 use Rattle.tx_tfm.specs.contracts.state.FontState as font_state
 use Rattle.tx_hyphenate.specs.declared.known.Hyphenation.{Hyphenation}
 use Rattle.tx_hyphenate.specs.contracts.known.Hyphenation as hyphenation
+use Rattle.tx_word.specs.declared.accent.Accent.{Accent}
+use Rattle.tx_word.specs.contracts.accent.Accent as accent
 use Rattle.tx_word.specs.declared.open.OpenWord.{OpenWord}
 use Rattle.tx_word.specs.contracts.open.OpenWord as open_word
 use Rattle.tx_word.specs.Collecting.{Collecting}
@@ -81,10 +83,10 @@ reader_code = code_by
 
 abbrev words_code : Coded Collecting
 words_code = code_by
-    (List FontState × Option OpenWord)
-    (coded× (coded_list font_state.the_row.coded) (coded_option open_word.the_row.coded))
-    (λ w. (w.fonts, w.word))
-    (λ p. record { fonts = p.0; word = p.1 })
+    (List FontState × (Option OpenWord × Option Accent))
+    (coded× (coded_list font_state.the_row.coded) (coded× (coded_option open_word.the_row.coded) (coded_option accent.the_row.coded)))
+    (λ w. (w.fonts, (w.word, w.accent)))
+    (λ p. record { fonts = p.0; word = p.1.0; accent = p.1.1 })
     (λ _. refl)
 
 abbrev state_code : Coded TexState

@@ -1,5 +1,5 @@
 //! How a turn ends: it fails, asks, ends the run, ends an assignment, or appends an item.
-ghost use Rattle.std.specs.Prelude.{◌≡◌, IfOk, OnOk};
+ghost use Rattle.std.specs.Prelude.{◌≡◌, [], IfOk, OnOk};
 ghost use Rattle.tx_assign.specs.Changes.{carried_out};
 ghost use Rattle.tx_event.specs.Turns.{kind_of};
 ghost use Rattle.tx_node.specs.Nodes.{item_of};
@@ -12,10 +12,12 @@ use crate::state::State;
 use std::alloc::AllocError;
 use std::mem;
 use tx_assign::{Assignment, Carried};
+use tx_command::{CommandScan, Head, Prefixes};
 use tx_event::{Ask, AskKind, Event, Stop};
 use tx_nest::append_item;
 use tx_node::Node;
 use tx_seen::TexError;
+use tx_word::Words;
 
 /// The run ends by an error.
 pub fn fail(s: &mut State, error: TexError) -> Event
@@ -43,6 +45,32 @@ pub fn finish(s: &mut State) -> Event
     Event::Stopped(Stop::End)
 }
 
+/// What stands before the next command behind an assignment: an accent, if one waits for the character below it.
+pub fn next_head(words: &Words) -> Head
+    ensures { result ≡ spec.next_head words.now.accent }
+{
+    match words.accent() {
+        Some(_) => Head::Accenting(Prefixes {
+            global: false,
+            long: false,
+            outer: false,
+        }),
+        None => Head::Fresh,
+    }
+}
+
+/// The next command stands behind an accent that waits, or behind nothing.
+#[inline(always)]
+fn stand_next(words: &Words, scan: &mut CommandScan)
+    ensures { scan.new ≡ record { mode = scan.old.mode; head = spec.next_head words.now.accent; taken = [] } }
+{
+    match words.accent() {
+        // (nearly always)
+        None => scan.begin_fresh(),
+        Some(_) => scan.begin_behind(next_head(words)),
+    }
+}
+
 /// An assignment is done: what \afterassignment keeps is read next. Its only error is want of memory.
 pub fn finish_assignment(s: &mut State) -> Result<(), AllocError>
     ensures state { OnOk result (state_of s.new ≡ spec.assigned (state_of s.old)) }
@@ -52,7 +80,7 @@ pub fn finish_assignment(s: &mut State) -> Result<(), AllocError>
     if let Some(token) = mem::replace(&mut s.after_assignment, None) {
         s.input.give_back(token)?;
     }
-    s.scan.begin_fresh();
+    stand_next(&s.words, &mut s.scan);
     Ok(())
 }
 

@@ -20,7 +20,9 @@ mod standing;
 mod state;
 mod text;
 
-pub use ending::{add, ask, carry_out_assignment, end_assignment, fail, finish, finish_assignment};
+pub use ending::{
+    add, ask, carry_out_assignment, end_assignment, fail, finish, finish_assignment, next_head,
+};
 pub use groups::{leave_group, open, open_group};
 pub use parts::Phase;
 pub use same::same_state;

@@ -24,7 +24,7 @@ first_state date main = record {
   taken = [];
   lists = first_lists;
   alignments = [];
-  words = record { fonts = no_fonts; word = None };
+  words = record { fonts = no_fonts; word = None; accent = None };
   hyphenation = record { hyphens = record { patterns = []; exceptions = [] }; used = false };
   table = record { table = initial_table (moment_of date); groups = [] };
   after_groups = [];

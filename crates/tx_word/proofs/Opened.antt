@@ -9,6 +9,7 @@ use Rattle.tx_tfm.specs.declared.state.FontState.{FontState}
 use Rattle.tx_tfm.specs.Format.{is_there}
 use Rattle.tx_tfm.specs.Fonts.{font_at, has_character, with_font_identifier, with_font_integer, with_identifier, with_integer}
 use Rattle.tx_tfm.proofs.Numbered.{font_at_changed, has_more}
+use Rattle.tx_word.specs.declared.accent.Accent.{Accent}
 use Rattle.tx_word.specs.declared.open.OpenWord.{OpenWord}
 use Rattle.tx_word.specs.Collecting.{AreCollecting, Collecting, IsOpen, font_of, joined}
 
@@ -17,8 +18,8 @@ pub open-joined : (fonts : List FontState) (word : Option OpenWord) (font code :
 open-joined fonts None font code opened has = All-push (λ c. has_character fonts font c ≡ true) [] code (All-nil (λ c. has_character fonts font c ≡ true)) has
 open-joined fonts (Some word) font code opened has = All-push (λ c. has_character fonts word.font c ≡ true) word.chars code opened has
 
-abbrev collecting : List FontState → Option OpenWord → Collecting
-collecting fonts word = record { fonts = fonts; word = word }
+abbrev collecting : List FontState → Option OpenWord → Option Accent → Collecting
+collecting fonts word accent = record { fonts = fonts; word = word; accent = accent }
 
 -- other fonts are put behind those that are there
 pub open-more : (fonts more : List FontState) (word : Option OpenWord) → AreCollecting fonts word → AreCollecting (fonts ++ more) word
@@ -56,15 +57,15 @@ open-identifier (Ok done) old new word number text ok err opened =
 open-identifier (Err e) old new word number text ok err opened = subst (λ (fonts : List FontState). AreCollecting fonts word) (sym err) opened
 
 -- fonts that are changed in one way are so behind the words
-pub words-with : {T E : Type 0} (change : List FontState → ℤ → List FontState) (r : Result T E) (old : Collecting) (fonts new : List FontState) (word : Option OpenWord) (given value : ℤ)
-    → collecting fonts word ≡ old → given ≡ value → OnOk r (new ≡ change fonts given) → OnOk r (collecting new word ≡ record old { fonts = change old.fonts value })
-words-with change (Ok done) old fonts new word given value is same e = λ i. record { fonts = (e ∙ (λ j. change ((is j).fonts) (same j))) i; word = (is i).word }
-words-with change (Err e) old fonts new word given value is same ok = tt
+pub words-with : {T E : Type 0} (change : List FontState → ℤ → List FontState) (r : Result T E) (old : Collecting) (fonts new : List FontState) (word : Option OpenWord) (accent : Option Accent) (given value : ℤ)
+    → collecting fonts word accent ≡ old → given ≡ value → OnOk r (new ≡ change fonts given) → OnOk r (collecting new word accent ≡ record old { fonts = change old.fonts value })
+words-with change (Ok done) old fonts new word accent given value is same e = λ i. record { fonts = (e ∙ (λ j. change ((is j).fonts) (same j))) i; word = (is i).word; accent = (is i).accent }
+words-with change (Err e) old fonts new word accent given value is same ok = tt
 
-pub words-by : {T E : Type 0} (change : List FontState → List FontState) (r : Result T E) (old : Collecting) (fonts new : List FontState) (word : Option OpenWord)
-    → collecting fonts word ≡ old → OnOk r (new ≡ change fonts) → OnOk r (collecting new word ≡ record old { fonts = change old.fonts })
-words-by change (Ok done) old fonts new word is e = λ i. record { fonts = (e ∙ (λ j. change ((is j).fonts))) i; word = (is i).word }
-words-by change (Err e) old fonts new word is ok = tt
+pub words-by : {T E : Type 0} (change : List FontState → List FontState) (r : Result T E) (old : Collecting) (fonts new : List FontState) (word : Option OpenWord) (accent : Option Accent)
+    → collecting fonts word accent ≡ old → OnOk r (new ≡ change fonts) → OnOk r (collecting new word accent ≡ record old { fonts = change old.fonts })
+words-by change (Ok done) old fonts new word accent is e = λ i. record { fonts = (e ∙ (λ j. change ((is j).fonts))) i; word = (is i).word; accent = (is i).accent }
+words-by change (Err e) old fonts new word accent is ok = tt
 
 -- fonts that were taken to be changed, a copy or not, are those that there were
 pub one-way : {A : Type 0} → A ⊎ A → A

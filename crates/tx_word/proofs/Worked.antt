@@ -133,13 +133,13 @@ word-ab = Apart _ _ _ (lig.Char 98 ∷ []) refl (Last _)
 
 -- a word grows, and ends without its right boundary before a character that the font lacks; before another command it counts
 abbrev open_aa : Collecting
-open_aa = record { fonts = fonts; word = Some (record { font = 1; chars = 97 ∷ 97 ∷ [] }) }
+open_aa = record { fonts = fonts; word = Some (record { font = 1; chars = 97 ∷ 97 ∷ [] }); accent = None }
 
-grows : collected open_aa true 0 98 ≡ record { items = []; words = record { fonts = fonts; word = Some (record { font = 1; chars = 97 ∷ 97 ∷ 98 ∷ [] }) }; lacking = None }
+grows : collected open_aa true 0 98 ≡ record { items = []; words = record { fonts = fonts; word = Some (record { font = 1; chars = 97 ∷ 97 ∷ 98 ∷ [] }); accent = None }; lacking = None }
 unfolding word_at
 grows = refl
 
-begins : collected (without_word open_aa) true 1 97 ≡ record { items = []; words = record { fonts = fonts; word = Some (record { font = 1; chars = 97 ∷ [] }) }; lacking = None }
+begins : collected (without_word open_aa) true 1 97 ≡ record { items = []; words = record { fonts = fonts; word = Some (record { font = 1; chars = 97 ∷ [] }); accent = None }; lacking = None }
 unfolding word_at
 begins = refl
 

@@ -6,14 +6,17 @@ use Rattle.std.specs.List.{All}
 use Rattle.tx_node.specs.Items.{Item}
 use Rattle.tx_tfm.specs.declared.state.FontState.{FontState}
 use Rattle.tx_tfm.specs.Fonts.{has_character}
+use Rattle.tx_word.specs.declared.accent.Accent.{Accent}
 use Rattle.tx_word.specs.declared.open.OpenWord.{OpenWord}
 use Rattle.tx_word.specs.Composed.{word_list}
 use Rattle.tx_word.specs.Points.{hyphen_of}
 
--- the fonts of a run, and the word that is open at the end of the list that is being built, if one is
+-- the fonts of a run, the word that is open at the end of the list that is being built, and the accent that waits for the character
+-- below it, if there are such
 pub record Collecting : Type 0 where
   pub fonts : List FontState
   pub word : Option OpenWord
+  pub accent : Option Accent
 
 -- the characters of the open word are in its font
 abbrev pub IsOpen : List FontState → OpenWord → Type 0

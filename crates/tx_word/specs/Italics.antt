@@ -4,7 +4,7 @@ use Rattle.tx_node.specs.declared.plain.Plain.{Plain}
 use Rattle.tx_node.specs.declared.plain.Plain.TheVariants.{Kern, Glue, Penalty, Character}
 use Rattle.tx_node.specs.declared.plain.Shared.{Shared}
 use Rattle.tx_node.specs.declared.plain.Shared.TheVariants.{Rule, Leaders, Special, Ligature, Mark}
-use Rattle.tx_node.specs.Items.{Item, plain, shared, boxed, discretionary, adjustment, insertion}
+use Rattle.tx_node.specs.Items.{Item, plain, shared, boxed, discretionary, adjustment, insertion, box_leaders}
 use Rattle.tx_tfm.specs.declared.state.FontState.{FontState}
 use Rattle.tx_tfm.specs.Fonts.{character_italic}
 
@@ -29,6 +29,7 @@ item_italic fonts (boxed shift head inner) = None
 item_italic fonts (discretionary replaced pre post) = None
 item_italic fonts (adjustment inner) = None
 item_italic fonts (insertion inserted inner) = None
+item_italic fonts (box_leaders head repeated inner) = None
 
 -- that of the last item
 abbrev pub last_italic : List FontState → List Item → Option ℤ

@@ -2,6 +2,7 @@ pub mod Factors
 pub mod Sizes
 pub mod Spaces
 pub mod Words
+pub mod Accents
 pub mod Composed
 pub mod Lists
 pub mod Divisions

@@ -39,6 +39,7 @@ fn item_italic(fonts: &Fonts, node: &Node) -> Option<i32>
         Node::Plain(Plain::Kern(_, _) | Plain::Glue(_) | Plain::Penalty(_)) => None,
         Node::Shared(shared) => shared_italic(fonts, shared.as_ref()),
         Node::Box(_, _) | Node::Discretionary(_) | Node::Adjustment(_) | Node::Insertion(_) => None,
+        Node::BoxLeaders(_) => None,
     }
 }
 

@@ -3,6 +3,7 @@ ghost use Rattle.std.specs.Prelude.{◌≡◌, ◌↔◌, ◌<◌, ◌≤◌, �
 ghost use Rattle.tx_tfm.specs.Fonts.{font_at, has_character, loaded_state, with_font_identifier, with_font_integer, with_font_parameter};
 ghost use Rattle.tx_word.specs.Collecting as spec;
 
+use crate::accent::Accent;
 use crate::point::hyphen_of;
 use crate::word::append_word;
 use std::alloc::{AllocError, Global};
@@ -35,12 +36,13 @@ impl Kept for OpenWord {
     }
 }
 
-/// The fonts of a run, and the word that is open at the end of the list that is being built, if one is. Copies share the fonts
-/// until these change.
+/// The fonts of a run, the word that is open at the end of the list that is being built, and the accent that waits for the
+/// character below it, if there are such. Copies share the fonts until these change.
 #[derive(Drop)]
 pub struct Words {
     fonts: Rc<Fonts>,
     word: Option<OpenWord>,
+    accent: Option<Accent>,
 }
 
 impl Model for Words {
@@ -48,7 +50,7 @@ impl Model for Words {
 
     ghost Value = { Collecting };
 
-    ghost view = { λ w. record { fonts = w.fonts.value; word = w.word } };
+    ghost view = { λ w. record { fonts = w.fonts.value; word = w.word; accent = w.accent } };
 
     ghost invariant = { λ w. AreCollecting w.fonts.value w.word };
 }
@@ -126,13 +128,14 @@ fn breaking(fonts: &Fonts, font: u8, in_paragraph: bool) -> Option<u8>
 }
 
 impl Words {
-    /// These fonts, and no word. Its only error is want of memory.
+    /// These fonts, and neither a word nor an accent. Its only error is want of memory.
     pub fn new(alloc: Global, fonts: Fonts) -> Result<Words, AllocError>
-        ensures { IfOk result (λ words. words ≡ record { fonts = fonts; word = None }) }
+        ensures { IfOk result (λ words. words ≡ record { fonts = fonts; word = None; accent = None }) }
     {
         Ok(Words {
             fonts: Rc::new(alloc, fonts)?,
             word: None,
+            accent: None,
         })
     }
 
@@ -148,6 +151,20 @@ impl Words {
         ensures { result ≡ is_some self.now.word }
     {
         self.word.is_some()
+    }
+
+    /// The accent that waits for the character below it, if one does.
+    pub fn accent(&self) -> Option<Accent>
+        ensures { result ≡ self.now.accent }
+    {
+        self.accent
+    }
+
+    /// From now on this accent waits, or none.
+    pub fn set_accent(&mut self, accent: Option<Accent>)
+        ensures { self.new ≡ record self.old { accent = accent } }
+    {
+        self.accent = accent;
     }
 
     /// The font of the next character, where this one is current.
@@ -290,11 +307,13 @@ impl Words {
         set_font_identifier(&mut self.fonts, number, identifier)
     }
 
-    /// Whether both have the same fonts, and the same word is open.
+    /// Whether both have the same fonts, the same word is open, and the same accent waits.
     pub fn same(&self, other: &Words) -> bool
         ensures { IsTrue result ↔ (self.now ≡ other.now) }
     {
-        same_option(&self.word, &other.word) && self.fonts().same(other.fonts())
+        same_option(&self.word, &other.word)
+            && same_option(&self.accent, &other.accent)
+            && self.fonts().same(other.fonts())
     }
 
     /// The same words once more, which share the fonts. Its only error is want of memory.
@@ -304,6 +323,7 @@ impl Words {
         Ok(Words {
             fonts: self.fonts.clone()?,
             word: share_option(&self.word)?,
+            accent: self.accent,
         })
     }
 }

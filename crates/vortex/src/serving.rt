@@ -4,7 +4,7 @@ use std::io::{BufRead, BufReader};
 use std::rt::Files;
 use tx_causes::causes::{one, unread_cause};
 use tx_causes::serving::{answer_cause, input_cause, served_cause, wanting_causes};
-use tx_causes::telling::{tell, tell_all};
+use tx_causes::telling::{Line, tell, tell_all};
 use tx_io::{DirSink, DirSource, FilesRead, StdInlet};
 use tx_machine::CountsTurns;
 use tx_words::given::Asked;
@@ -26,7 +26,7 @@ fn causes<R: Files + Print, B: BufRead>(
     source: &DirSource<'_, R>,
     inlet: &StdInlet<B>,
     sink: &DirSink<'_, R>,
-) -> Result<Vec<String>, AllocError> {
+) -> Result<Vec<Line>, AllocError> {
     match status {
         0 => Ok(Vec::new(alloc)),
         1 | 5 => one(alloc, served_cause(alloc, status == 1)?),

@@ -23,7 +23,7 @@ use tx_main::Tex;
 /// |---|---|
 /// | 0, 1 | all that came in was answered, and the last run ended by the end of its text, or otherwise |
 /// | 2 | the words don't ask to serve a document; nothing was run |
-/// | 3 | the source failed, and nothing was run or said; or the inlet failed, and no answer was put out in part |
+/// | 3 | the source failed, and nothing was taken in, run or said; or the inlet failed, and all that was taken in whole is answered |
 /// | 4 | the sink failed |
 /// | 5 | all that came in was answered, the last run ended by the end of its text, and an edit went past the end of its file |
 /// | 6 | there was no memory left for what comes in, or to answer it |
@@ -37,7 +37,7 @@ pub fn serve<S: Source, I: Inlet, K: Sink>(
 ) -> u8
     // Whatever comes in, it is read as requests in the one way that there is, and the answers to them, in their order, are those of
     // fresh runs on the listed files, as edited by then; whatever the status, nothing else is put out.
-    ensures leaves { ForServing (words_meant (texts words.now)) (λ serving. ForHeld (S.holds source.old) (λ held. ServeLeaves tex (serving_held serving held) (I.left inlet.old) result (K.output sink.old) (K.output sink.new) steps.old steps.new)) }
+    ensures leaves { ForServing (words_meant (texts words.now)) (λ serving. ForHeld (S.holds source.old) (λ held. ServeLeaves tex (serving_held serving held) (S.faults source.old) (S.faults source.new) (I.left inlet.old) (I.left inlet.new) result (K.output sink.old) (K.output sink.new) steps.old steps.new)) }
 
     // Words that ask for something else are refused, and nothing is run.
     ensures says { AsksForNone (words_meant (texts words.now)) → IsCutShort (K.output sink.old) (Say refusal_line ∷ []) (K.output sink.new) × (steps.new ≡ steps.old) }

@@ -14,3 +14,6 @@ returns-in-Center c = rw c.in-Center.is (c.center.ensures c.args.target.global c
 
 pub returns-in-Adjust : goal.returns-in-Adjust
 returns-in-Adjust c = rw c.in-Adjust.is (c.adjust.ensures c.args.target.global c.args.table.now)
+
+pub returns-in-Lead : goal.returns-in-Lead
+returns-in-Lead c = rw c.in-Lead.is (c.lead.ensures c.args.target.global c.args.lists.now c.args.table.now)

@@ -13,7 +13,7 @@ use Rattle.tx_call.proofs.serve.serve_words.Goals as goal
 
 pub returns-in_err-serving-clause-serves : goal.returns-in_err-serving-clause-serves
 returns-in_err-serving-clause-serves g c = λ serving is.
-    for_any _ (λ held. serves-short g.M.Machine.formatter (serving_held serving held) c.from_residual.result Memory (g.I.Inlet.left c.args.inlet.now) (g.K.Sink.output c.args.sink.now) (g.K.Sink.output c.args.sink.now) c.args.steps.now c.args.steps.now
+    for_any _ (λ held. serves-short g.M.Machine.formatter (serving_held serving held) c.from_residual.result Memory (g.I.Inlet.left c.args.inlet.now) (g.I.Inlet.left c.args.inlet.now) (g.K.Sink.output c.args.sink.now) (g.K.Sink.output c.args.sink.now) c.args.steps.now c.args.steps.now
     c.from_residual.ensures.1 (served-nothing g.M.Machine.formatter (serving_held serving held) refl refl))
 
 pub returns-in_err-serving-clause-refuses : goal.returns-in_err-serving-clause-refuses
@@ -23,7 +23,7 @@ pub returns-in-Serve-clause-serves : goal.returns-in-Serve-clause-serves
 returns-in-Serve-clause-serves g c =
     let are : Serve c.in-Serve.serving ≡ words_meant (texts c.args.words.now) = search rules in
     serves-this (words_meant (texts c.args.words.now)) c.in-Serve.serving are
-    (λ (serving : Serving). ForHeld (g.S.Source.holds c.args.source.now) (λ held. ServesFiles g.M.Machine.formatter (serving_held serving held) (g.I.Inlet.left c.args.inlet.now) c.serve_listed.result (g.K.Sink.output c.args.sink.now) (g.K.Sink.output c.serve_listed.new.sink) c.args.steps.now c.serve_listed.new.steps))
+    (λ (serving : Serving). ForHeld (g.S.Source.holds c.args.source.now) (λ held. ServesFiles g.M.Machine.formatter (serving_held serving held) (g.I.Inlet.left c.args.inlet.now) (g.I.Inlet.left c.serve_listed.new.inlet) c.serve_listed.result (g.K.Sink.output c.args.sink.now) (g.K.Sink.output c.serve_listed.new.sink) c.args.steps.now c.serve_listed.new.steps))
     c.serve_listed.ensures.serves
 
 pub returns-in-Serve-clause-refuses : goal.returns-in-Serve-clause-refuses
@@ -45,7 +45,7 @@ pub returns-in_default-clause-serves : goal.returns-in_default-clause-serves
 returns-in_default-clause-serves g c =
     let none : AsksForNone (words_meant (texts c.args.words.now)) = asks-for-none _ (words_meant (texts c.args.words.now)) c.in_ok-serving.ensures.asked c.in_default.not-Serve in
     serves-none (words_meant (texts c.args.words.now))
-    (λ (serving : Serving). ForHeld (g.S.Source.holds c.args.source.now) (λ held. ServesFiles g.M.Machine.formatter (serving_held serving held) (g.I.Inlet.left c.args.inlet.now) c.refuse_words.result (g.K.Sink.output c.args.sink.now) (g.K.Sink.output c.refuse_words.new.sink) c.args.steps.now c.args.steps.now)) none
+    (λ (serving : Serving). ForHeld (g.S.Source.holds c.args.source.now) (λ held. ServesFiles g.M.Machine.formatter (serving_held serving held) (g.I.Inlet.left c.args.inlet.now) (g.I.Inlet.left c.args.inlet.now) c.refuse_words.result (g.K.Sink.output c.args.sink.now) (g.K.Sink.output c.refuse_words.new.sink) c.args.steps.now c.args.steps.now)) none
 
 pub returns-in_default-clause-refuses : goal.returns-in_default-clause-refuses
 returns-in_default-clause-refuses g c = λ none. (c.refuse_words.ensures.refuses, refl)

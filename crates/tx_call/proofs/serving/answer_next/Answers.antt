@@ -25,7 +25,7 @@ pub returns-in-Over-clause-hears : goal.returns-in-Over-clause-hears
 returns-in-Over-clause-hears g c = record { over = over-ends (g.I.Inlet.left c.args.inlet.now) (g.I.Inlet.left c.next_request.new.inlet) c.in-Over.ensures.next; sitting_is = refl; silent = record { output_is = refl; steps_are = refl } }
 
 pub returns-in-Failed-clause-hears : goal.returns-in-Failed-clause-hears
-returns-in-Failed-clause-hears g c = record { output_is = refl; steps_are = refl }
+returns-in-Failed-clause-hears g c = (c.in-Failed.ensures.next, record { output_is = refl; steps_are = refl })
 
 pub returns-in-OutOfMemory-clause-hears : goal.returns-in-OutOfMemory-clause-hears
 returns-in-OutOfMemory-clause-hears g c = inl (record { output_is = refl; steps_are = refl })

@@ -1,5 +1,5 @@
 -- A list that ends is set in text style.
-use Rattle.std.proofs.Common.{◌≡◌, ◌≢◌, Bool, List, Result, Ok, Err, IfErr, IsErrAnd, ap, sym, subst, ◌∙◌}
+use Rattle.std.proofs.Common.{◌≡◌, ◌≢◌, Bool, List, Result, Ok, Err, IfErr, ap, sym, ◌∙◌}
 use Rattle.tx_box.specs.declared.parts.Lists.{Lists}
 use Rattle.tx_eqtb.specs.declared.table.Table.{Table}
 use Rattle.tx_math.specs.declared.error.MathError.{MathError}
@@ -11,6 +11,7 @@ use Rattle.tx_formula.specs.declared.error.FormulaError.TheVariants.{OutOfMemory
 use Rattle.tx_formula.specs.Errors.{error_of, of_math}
 use Rattle.tx_formula.specs.Lists.{ended_list}
 use Rattle.tx_formula.specs.Shifts.{ended_text, is_paragraph, set_beside, set_list, text_by}
+use Rattle.tx_formula.proofs.Refused.{on-err}
 use Rattle.tx_formula.proofs.shifts.end_text_list.Goals as goal
 
 -- what comes of the list is what is made of it
@@ -20,11 +21,6 @@ ends-by fonts table lists left list innermost breaks made ended is_innermost bre
     ∙ ap (λ (l : ModeList). set_beside left (set_list fonts table (is_paragraph l.state) list)) (sym is_innermost)
     ∙ ap (λ (b : Bool). set_beside left (set_list fonts table b list)) (sym breaks_is)
     ∙ ap (set_beside left) is
-
--- what is so of an error is so of the result that has it
-on-err : {T E : Type 0} (r : Result T E) (e : E) (IsSo : Result T E → Type 0) → IsErrAnd r (λ x. x ≡ e) → IsSo (Err e) → IsSo r
-on-err (Ok value) e IsSo same so = absurd same
-on-err (Err x) e IsSo same so = subst (λ y. IsSo (Err y)) (sym same) so
 
 pub returns-in_err-made-clause-error : goal.returns-in_err-made-clause-error
 returns-in_err-made-clause-error c =

@@ -26,12 +26,12 @@ runs-on (Waiting kind) now left is = absurd (cc)
 runs-on Halted now left is = absurd (cc)
 
 -- a paragraph has begun on the pages' list, and the page builder is exercised
-begins : {E : Type 0} (before read carried new : State) (how : Indentation) (lists : Lists) (b on : Bool) (event : Event) (answer : Result Event E) → b ≡ begins_paragraph before.lists.nest.innermost.state → on ≡ is_pages before.scan.mode → on ≡ true → state_of read ≡ with_every_par b (state_of before) → read.said ≡ before.said → lists ≡ indented how read.table.table read.lists → IsStepped (Leaves (carrying (state_of (record read { lists = lists })) (record { lists = lists; table = read.table; due = None })) []) (record read { lists = lists }) event carried → IfOk answer (λ e. IsStepped (exercising (state_of carried) []) carried e new) → IfOk answer (λ e. IsStepped (indenting_so (state_of before) how) before e new)
+begins : {E : Type 0} (before read carried new : State) (how : Indentation) (lists : Lists) (b on : Bool) (event : Event) (answer : Result Event E) → b ≡ begins_paragraph before.lists.nest.innermost.state → on ≡ is_pages before.scan.mode → on ≡ true → state_of read ≡ with_every_par b (state_of before) → read.said ≡ before.said → lists ≡ indented how read.table.table read.lists → IsStepped (Leaves (carrying (state_of (record read { lists = lists })) (record { lists = lists; table = read.table; due = None; leads = None })) []) (record read { lists = lists }) event carried → IfOk answer (λ e. IsStepped (exercising (state_of carried) []) carried e new) → IfOk answer (λ e. IsStepped (indenting_so (state_of before) how) before e new)
 begins before read carried new how lists b on event answer paragraph pages is_on is said has_indented went did =
     let begun : TexState = indenting how (with_every_par (begins_paragraph before.lists.nest.innermost.state) (state_of before)) in
     let left : state_of carried ≡ begun =
-    runs-on carried.phase (state_of carried) (carrying (state_of (record read { lists = lists })) (record { lists = lists; table = read.table; due = None })) went.state_is
-    ∙ ap (λ (l : Lists). carrying (state_of read) (record { lists = l; table = read.table; due = None })) has_indented
+    runs-on carried.phase (state_of carried) (carrying (state_of (record read { lists = lists })) (record { lists = lists; table = read.table; due = None; leads = None })) went.state_is
+    ∙ ap (λ (l : Lists). carrying (state_of read) (record { lists = l; table = read.table; due = None; leads = None })) has_indented
     ∙ ap (indenting how) (is ∙ ap (λ (p : Bool). with_every_par p (state_of before)) paragraph) in
     outcome-by (exercising (state_of carried) []) (indenting_so (state_of before) how) before carried new answer
     (ap (λ (s : TexState). exercising s []) left ∙ ap (λ (p : Bool). beginning_paragraph p begun) (sym is_on ∙ pages))
@@ -39,13 +39,13 @@ begins before read carried new how lists b on event answer paragraph pages is_on
     did
 
 -- one has begun elsewhere, or another list goes on
-goes-on : (before read carried : State) (how : Indentation) (lists : Lists) (b on : Bool) (event : Event) → b ≡ begins_paragraph before.lists.nest.innermost.state → on ≡ is_pages before.scan.mode → on ≡ false → state_of read ≡ with_every_par b (state_of before) → read.said ≡ before.said → lists ≡ indented how read.table.table read.lists → IsStepped (Leaves (carrying (state_of (record read { lists = lists })) (record { lists = lists; table = read.table; due = None })) []) (record read { lists = lists }) event carried → IsStepped (indenting_so (state_of before) how) before event carried
+goes-on : (before read carried : State) (how : Indentation) (lists : Lists) (b on : Bool) (event : Event) → b ≡ begins_paragraph before.lists.nest.innermost.state → on ≡ is_pages before.scan.mode → on ≡ false → state_of read ≡ with_every_par b (state_of before) → read.said ≡ before.said → lists ≡ indented how read.table.table read.lists → IsStepped (Leaves (carrying (state_of (record read { lists = lists })) (record { lists = lists; table = read.table; due = None; leads = None })) []) (record read { lists = lists }) event carried → IsStepped (indenting_so (state_of before) how) before event carried
 goes-on before read carried how lists b on event paragraph pages is_off is said has_indented went =
     let begun : TexState = indenting how (with_every_par (begins_paragraph before.lists.nest.innermost.state) (state_of before)) in
-    let left : carrying (state_of (record read { lists = lists })) (record { lists = lists; table = read.table; due = None }) ≡ begun =
-    ap (λ (l : Lists). carrying (state_of read) (record { lists = l; table = read.table; due = None })) has_indented
+    let left : carrying (state_of (record read { lists = lists })) (record { lists = lists; table = read.table; due = None; leads = None }) ≡ begun =
+    ap (λ (l : Lists). carrying (state_of read) (record { lists = l; table = read.table; due = None; leads = None })) has_indented
     ∙ ap (indenting how) (is ∙ ap (λ (p : Bool). with_every_par p (state_of before)) paragraph) in
-    outcome-by {E = ℕ} (Leaves (carrying (state_of (record read { lists = lists })) (record { lists = lists; table = read.table; due = None })) []) (indenting_so (state_of before) how) before (record read { lists = lists }) carried (Ok event)
+    outcome-by {E = ℕ} (Leaves (carrying (state_of (record read { lists = lists })) (record { lists = lists; table = read.table; due = None; leads = None })) []) (indenting_so (state_of before) how) before (record read { lists = lists }) carried (Ok event)
     (ap (λ (s : TexState). Leaves s []) left ∙ ap (λ (p : Bool). beginning_paragraph p begun) (sym is_off ∙ pages))
     said
     went

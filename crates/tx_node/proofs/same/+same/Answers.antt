@@ -1,7 +1,7 @@
 use Rattle.std.proofs.Common.{ℕ, ◌<◌, ◌≡◌, subst, sym, ap, ◌∙◌, arith}
 use Rattle.std.proofs.lemmas.Grind.{common_steps}
 use Rattle.tx_node.specs.Nodes.{item_of}
-use Rattle.tx_node.proofs.Equal.{differ, same-adjustments, same-boxes, same-discretionaries, same-insertions, same-lists}
+use Rattle.tx_node.proofs.Equal.{differ, same-adjustments, same-box-leaders, same-boxes, same-discretionaries, same-insertions, same-lists}
 use Rattle.tx_node.proofs.Measures.{node_measure, to-item}
 use Rattle.tx_node.proofs.same.+same.Goals as goal
 
@@ -43,3 +43,9 @@ same_node-returns-in-Insertion-Insertion t c =
     same-insertions c.deref-in-Insertion-Insertion.result.now c.deref-in-Insertion-Insertion-2.result.now
     (rw c.deref-in-Insertion-Insertion.ensures (ap item_of c.in-Insertion-Insertion.is-0)) (rw c.deref-in-Insertion-Insertion-2.ensures (ap item_of c.in-Insertion-Insertion.is-1))
     c.same_insertion.ensures
+
+pub same_node-returns-in-BoxLeaders-BoxLeaders : goal.same_node-returns-in-BoxLeaders-BoxLeaders
+same_node-returns-in-BoxLeaders-BoxLeaders t c =
+    same-box-leaders c.deref-in-BoxLeaders-BoxLeaders.result.now c.deref-in-BoxLeaders-BoxLeaders-2.result.now
+    (rw c.deref-in-BoxLeaders-BoxLeaders.ensures (ap item_of c.in-BoxLeaders-BoxLeaders.is-0)) (rw c.deref-in-BoxLeaders-BoxLeaders-2.ensures (ap item_of c.in-BoxLeaders-BoxLeaders.is-1))
+    c.same_box_leaders.ensures

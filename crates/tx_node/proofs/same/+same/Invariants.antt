@@ -1,6 +1,6 @@
 use Rattle.std.proofs.Common.{◌≡◌, length, take}
 use Rattle.tx_node.specs.Nodes.{list_of}
-use Rattle.tx_node.proofs.Measures.{list_measure, node_measure, box_measure, sublist_measure, discretionary_measure, insertion_measure}
+use Rattle.tx_node.proofs.Measures.{list_measure, node_measure, box_measure, leaders_measure, sublist_measure, discretionary_measure, insertion_measure}
 use Rattle.tx_node.proofs.same.+same.Given as goal
 
 abbrev pub invariant-same_list-loop-i : goal.invariant-same_list-loop-i
@@ -26,3 +26,6 @@ decreases-same_discretionary l = discretionary_measure l.a.now
 
 abbrev pub decreases-same_insertion : goal.decreases-same_insertion
 decreases-same_insertion l = insertion_measure l.a.now
+
+abbrev pub decreases-same_box_leaders : goal.decreases-same_box_leaders
+decreases-same_box_leaders l = leaders_measure l.a.now

@@ -106,6 +106,12 @@ returns-in-DeadCycles c = rw c.in-DeadCycles.is c.begin_shape-in-DeadCycles.ensu
 pub returns-in-MathChar : goal.returns-in-MathChar
 returns-in-MathChar c = rw c.in-MathChar.is c.begin_shape-in-MathChar.ensures
 
+pub returns-in-Coded : goal.returns-in-Coded
+returns-in-Coded c = rw c.in-Coded.is c.begin_shape-in-Coded.ensures
+
+pub returns-in-Accent : goal.returns-in-Accent
+returns-in-Accent c = rw c.in-Accent.is c.begin_shape-in-Accent.ensures
+
 pub returns-in-Center : goal.returns-in-Center
 returns-in-Center c = rw c.in-Center.is c.begin_shape-in-Center.ensures
 

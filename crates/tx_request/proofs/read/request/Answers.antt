@@ -1,5 +1,7 @@
-use Rattle.std.proofs.Common.{◌≡◌, [], Ok, Err, sym, ◌∙◌, true≢false}
-use Rattle.tx_request.proofs.Pieces.{asks_as, asks_not, nothing_comes, request_fails, request_is}
+use Rattle.std.proofs.Common.{◌≡◌, ℕ, List, [], take, Ok, Err, sym, ◌∙◌, true≢false}
+use Rattle.tx_io.specs.Inlet.{line_of}
+use Rattle.tx_request.specs.Streaming.{most_line}
+use Rattle.tx_request.proofs.Pieces.{asks_as, asks_none, asks_not, nothing_comes, request_fails, request_is}
 use Rattle.tx_request.proofs.read.request.Goals as goal
 
 pub returns-then-is_empty-clause-streams : goal.returns-then-is_empty-clause-streams
@@ -26,3 +28,8 @@ returns-clause-streams g c =
     asks_not c.in_ok-line.line (g.I.Inlet.left c.args.inlet.now) (g.I.Inlet.left c.next_line.new.inlet) (g.I.Inlet.left c.next_line.new.inlet) c.in_ok-line.ensures.took some c.refused_in.result
     (request_fails c.in_ok-line.line c.as_slice.result.now c.as_slice-in-Err.result.now c.as_slice.ensures c.as_slice-in-Err.ensures c.in-Err.fault c.in-Err.ensures c.refused_in.result c.refused_in.ensures
     (g.I.Inlet.left c.args.inlet.now) (g.I.Inlet.left c.next_line.new.inlet) c.in_ok-line.ensures.took)
+
+pub returns-in_err-line-clause-streams : goal.returns-in_err-line-clause-streams
+returns-in_err-line-clause-streams g c =
+    asks_as c.from_residual.result c.in_err-line.field-0.0 (g.I.Inlet.left c.args.inlet.now) (g.I.Inlet.left c.next_line.new.inlet) c.from_residual.ensures.1
+    (asks_none c.in_err-line.field-0.0 (λ (bytes : List ℕ). take most_line (line_of bytes)) (g.I.Inlet.left c.args.inlet.now) (g.I.Inlet.left c.next_line.new.inlet) c.in_err-line.ensures.took)

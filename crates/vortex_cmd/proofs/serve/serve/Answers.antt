@@ -6,13 +6,13 @@ use Rattle.tx_call.specs.declared.trouble.Break.TheVariants.{Trouble as Broken, 
 use Rattle.tx_call.specs.Serving.{serving_held}
 use Rattle.tx_words.specs.Words.{words_meant, texts}
 use Rattle.tx_call.proofs.ServedFiles.{served-words}
-use Rattle.vortex_cmd.proofs.Leaving.{in-part, leaves-all, leaves-at-inlet, leaves-at-source, leaves-in-part}
+use Rattle.vortex_cmd.proofs.Leaving.{in-part, leaves-all, leaves-at-inlet, leaves-at-source, leaves-in-part, source-rose}
 use Rattle.vortex_cmd.proofs.serve.serve.Goals as goal
 
 pub returns-in-Ok-clause-leaves : goal.returns-in-Ok-clause-leaves
 returns-in-Ok-clause-leaves g c =
     served-words (words_meant (texts c.args.words.now)) (g.S.Source.holds c.args.source.now) c.in-Ok.ensures.serves
-    (λ serving asked held serves. leaves-all tex (serving_held serving held) c.in-Ok.status serves)
+    (λ serving asked held serves. leaves-all tex (serving_held serving held) c.in-Ok.status c.in-Ok.ensures.range serves)
 
 pub returns-in-Err-Inlet-clause-leaves : goal.returns-in-Err-Inlet-clause-leaves
 returns-in-Err-Inlet-clause-leaves g c =
@@ -23,8 +23,11 @@ returns-in-Err-Inlet-clause-leaves g c =
 pub returns-in-Err-Trouble-Source-clause-leaves : goal.returns-in-Err-Trouble-Source-clause-leaves
 returns-in-Err-Trouble-Source-clause-leaves g c =
     let is : c.in-Err-Trouble-Source.field-0 ≡ Broken Source = search rules in
+    let rose =
+    source-rose c.in-Err-Trouble-Source.field-0 (g.S.Source.faults c.args.source.now) (g.S.Source.faults c.serve_words.new.source) (g.I.Inlet.faults c.args.inlet.now) (g.I.Inlet.faults c.serve_words.new.inlet) (g.K.Sink.faults c.args.sink.now) (g.K.Sink.faults c.serve_words.new.sink) is
+    c.in-Err-Trouble-Source.ensures.causes in
     served-words (words_meant (texts c.args.words.now)) (g.S.Source.holds c.args.source.now) c.in-Err-Trouble-Source.ensures.serves
-    (λ serving asked held serves. leaves-at-source tex (serving_held serving held) c.in-Err-Trouble-Source.field-0 is
+    (λ serving asked held serves. leaves-at-source tex (serving_held serving held) c.in-Err-Trouble-Source.field-0 is rose
     (c.in-Err-Trouble-Source.ensures.silent (ap (λ (e : Break). Err e) is)) serves)
 
 pub returns-in-Err-Trouble-Sink-clause-leaves : goal.returns-in-Err-Trouble-Sink-clause-leaves

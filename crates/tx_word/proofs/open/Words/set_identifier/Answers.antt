@@ -10,5 +10,5 @@ invariant_of-self c =
 
 pub returns : goal.returns
 returns c =
-    words-by (λ (fonts : List FontState). with_font_identifier fonts c.args.number c.args.identifier) c.set_font_identifier.result c.args.self.now c.self.inside.fonts.value c.set_font_identifier.new.fonts.value c.self.inside.word
+    words-by (λ (fonts : List FontState). with_font_identifier fonts c.args.number c.args.identifier) c.set_font_identifier.result c.args.self.now c.self.inside.fonts.value c.set_font_identifier.new.fonts.value c.self.inside.word c.self.inside.accent
     c.self.view_is c.set_font_identifier.ensures.ok

@@ -10,5 +10,5 @@ invariant_of-self c = open-files c.self.inside.fonts.value c.set_font_parameter.
 pub returns : goal.returns
 returns c =
     let fits : FitsSigned w32 c.args.value = search rules in
-    words-with (λ (fonts : List FontState) (value : ℤ). with_font_parameter fonts c.args.number c.args.n value) c.set_font_parameter.result c.args.self.now c.self.inside.fonts.value c.set_font_parameter.new.fonts.value c.self.inside.word _ c.args.value
+    words-with (λ (fonts : List FontState) (value : ℤ). with_font_parameter fonts c.args.number c.args.n value) c.set_font_parameter.result c.args.self.now c.self.inside.fonts.value c.set_font_parameter.new.fonts.value c.self.inside.word c.self.inside.accent _ c.args.value
     c.self.view_is (to_z-of_z fits) c.set_font_parameter.ensures.value
